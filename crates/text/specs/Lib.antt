@@ -1,0 +1,5 @@
+pub mod Bytes
+pub mod Kinds
+pub mod Trims
+pub mod Numerals
+pub mod Cuts
