@@ -1,0 +1,8 @@
+pub mod Bytes
+pub mod Numbers
+pub mod Heads
+pub mod Plain
+pub mod Takes
+pub mod Moments
+pub mod Strictly
+pub mod Once
