@@ -5,14 +5,18 @@ use mathlib.Core.Logic.{inl, inr}
 use Prim.Native.Nat.{ℕ, zero, suc, _+_, _-_, _≤_, _<_}
 use native.Mathlib.Omega.{arith}
 use lib.Dec.{T, leb}
-use lib.ListN.{length, take}
+use lib.ListN.{length, take, drop}
 use lib.Seq.{take-append-add, take-nil}
-use Rattle.std.proofs.shelf.Lists.{length-append, take-append-le}
+use Rattle.std.proofs.shelf.Lists.{append-nil, length-append, take-at, take-append-le}
+use Rattle.std.specs.declared.result.Result.{Result}
+use Rattle.std.specs.declared.result.Result.the-variants.{Ok, Err}
 use Rattle.std.proofs.shelf.Tests.{cases-lt, cond-true, cond-false, le-leb, lt-leb}
 use Rattle.text.specs.Bytes.{Text, all}
 use Rattle.request.specs.Canonical.{Req, canonical, allCanonical, write, writes, headLines, asSent, allSent}
-use Rattle.reader.specs.Reader.{Reader, Fair, More, headOf, onLine, onHead, onGot, readOne, readMany}
-use Rattle.reader.specs.Laws.{ReadsSo, within}
+use Rattle.request.specs.Writing.{Written}
+use Rattle.request.specs.declared.canonical.Full.{Full}
+use Rattle.reader.specs.Reader.{Reader, Fair, More, headOf, onLine, onHead, onGot, readOne, readMany, readAll}
+use Rattle.reader.specs.Laws.{ReadsSo, Understood, within}
 use Rattle.reader.proofs.Bytes.{and-l, and-r}
 use Rattle.reader.proofs.Takes.{takes-one, waits, many-bytes}
 
@@ -56,3 +60,14 @@ module _ (r : Reader) (f : Fair r) where
 
 pub reads-so : ReadsSo
 reads-so r f qs c k = reads r f qs c k (length (take k (writes qs))) (omega arith)
+
+pub understood : (q : Req) (xs then : Text) (o : Result ℕ Full) → Written (write q) xs then o → Understood q then o
+understood q xs then (Err full) w = tt
+understood q xs then (Ok n) w = λ c r f.
+    let ys = write q in
+    let rest = drop (length (write q)) xs in
+    let all : take n then ≡ ys ++ [] = ap (take n) (w .2) ∙ take-at ys rest n (sym (w .0)) ∙ sym (append-nil ys) in
+    let part : (k : ℕ) → k < n → take k then ≡ take k ys = λ k h. ap (take k) (w .2) ∙ take-append-le k ys rest (omega (arith, w .0)) in (
+      ap (readAll r) all ∙ first-whole r f q c (length (ys ++ [])) [] [] (omega arith) (λ j l. none-read r f j),
+      λ k h. ap (readAll r) (part k h) ∙ first-part r f q c (length (take k ys)) k (omega (arith, w .0)),
+    )

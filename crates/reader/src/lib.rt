@@ -1,7 +1,20 @@
 // Why no fair reader can misread the canonical form. Each line of a canonical request has some bytes and neither CR nor LF, so that every fair
 // reader cuts the same lines, reads them as everybody does, and knows by the length, which is the last field, where the body ends. Where not all of
 // a request has come, a line, the empty line or the body is cut short, and the reader waits.
-ghost use Rattle.reader.specs.Laws.{TakesOne, Waits, ReadsSo, OneReading, StrictIsFair};
+ghost use Rattle.reader.specs.Laws.{TakesOne, Waits, ReadsSo, Understood, OneReading, StrictIsFair};
+ghost use Rattle.request.specs.Canonical.{write};
+ghost use Rattle.request.specs.Writing.{viewRequest, Written};
+use request::canonical::Full;
+use request::canonical::Request;
+
+// Writes a request to the front of `out`, whole. Where it is canonical, every fair reader reads exactly it in what was written, and nothing in a
+// part of that.
+pub fn write_one(request: &Request, out: &mut [u8]) -> Result<usize, Full>
+    ensures writes { λ r. ⌜ Written (write (viewRequest (now (request .entry)))) (now (out .entry)) (now (out .exit)) r ⌝ }
+    ensures reads { λ r. ⌜ Understood (viewRequest (now (request .entry))) (now (out .exit)) r ⌝ }
+{
+    request.write(out)
+}
 
 // Any fair reader takes exactly one canonical request off the front, and leaves exactly the rest.
 pub fn takes_one() -> u8
