@@ -1,0 +1,5 @@
+pub mod Fronts
+pub mod Lines
+pub mod Ends
+pub mod Runs
+pub mod Digits
