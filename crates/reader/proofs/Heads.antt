@@ -14,7 +14,7 @@ use Rattle.text.specs.Bytes.{Text, all, clean, nonempty}
 use Rattle.message.specs.Fields.{linesOf}
 use Rattle.request.specs.Canonical.{headLimit}
 use Rattle.reader.specs.Reader.{Reader, Fair, Line, Head, HeadMore, HeadOf, headOf, onLine, putLine}
-use Rattle.reader.proofs.Bytes.{notEnd, all-take}
+use Rattle.text.proofs.Passing.{notEnd, all-take}
 
 -- lines that a head can have
 abbrev pub Lines : List Text → Type 0

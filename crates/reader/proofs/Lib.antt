@@ -1,4 +1,3 @@
-pub mod Bytes
 pub mod Numbers
 pub mod Heads
 pub mod Plain

@@ -17,7 +17,7 @@ use Rattle.request.specs.Writing.{Written}
 use Rattle.request.specs.declared.canonical.Full.{Full}
 use Rattle.reader.specs.Reader.{Reader, Fair, More, headOf, onLine, onHead, onGot, readOne, readMany, readAll}
 use Rattle.reader.specs.Laws.{ReadsSo, Understood, within}
-use Rattle.reader.proofs.Bytes.{and-l, and-r}
+use Rattle.text.proofs.Passing.{and-l, and-r}
 use Rattle.reader.proofs.Takes.{takes-one, waits, many-bytes}
 
 module _ (r : Reader) (f : Fair r) where

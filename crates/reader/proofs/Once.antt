@@ -11,7 +11,7 @@ use Rattle.request.specs.Canonical.{Req, canonical, allCanonical, carriesBody, 
 use Rattle.reader.specs.Reader.{Whole, readOne}
 use Rattle.reader.specs.Strict.{strict}
 use Rattle.reader.specs.Laws.{OneReading}
-use Rattle.reader.proofs.Bytes.{and-l, and-r}
+use Rattle.text.proofs.Passing.{and-l, and-r}
 use Rattle.reader.proofs.Takes.{takes-one, many-bytes}
 use Rattle.reader.proofs.Strictly.{strict-is-fair}
 

@@ -16,7 +16,7 @@ use Rattle.request.specs.Canonical.{Req, canonical, carriesBody, headLimit, fie
 use Rattle.text.specs.Numerals.{decimal}
 use Rattle.reader.specs.Strict.{valueByte}
 use Rattle.reader.proofs.Heads.{Lines}
-use Rattle.reader.proofs.Bytes.{and-i, and-l, and-r, notEnd, all-weaker, all-append, clean-by, so}
+use Rattle.text.proofs.Passing.{and-i, and-l, and-r, notEnd, all-weaker, all-append, clean-by, so}
 use Rattle.reader.proofs.Numbers.{decimal-digits}
 
 -- what a canonical request is, part by part

@@ -21,8 +21,9 @@ use Rattle.request.specs.Canonical.{canonicalMethod, beginsWithSlash, canonical
 use Rattle.reader.specs.Reader.{Cut, Short, Line, Many, One}
 use Rattle.reader.specs.Strict.{before, splitLine, Divided, frontMore, divide, askOf, askFrom, readAsk, valueByte, fieldOf, readFields, valuesOf, exactly, readSize}
 use Rattle.reader.specs.Laws.{StrictIsFair}
-use Rattle.reader.proofs.Bytes.{is-true, is-false, and-l, and-r, notEnd, so, differs, all-weaker}
-use Rattle.reader.proofs.Numbers.{decimal-back}
+use Rattle.text.proofs.Passing.{is-true, is-false, and-l, and-r, notEnd, so, differs, all-weaker}
+use Rattle.text.specs.declared.numeral.Base.the-variants.{Decimal}
+use Rattle.text_laws.proofs.Digits.{read-back}
 use Rattle.reader.proofs.Plain.{Plain, canonical-plain, length-plain, value-bytes}
 
 -- a byte that ends no line belongs to the line
@@ -137,6 +138,6 @@ strict-is-fair = record {
   plain-ask = λ m t g h l. ask-read m t g h;
   plain-fields = λ fs h o l. fields-read fs (canonical-plain fs h);
   length-last = λ fs body h o l s. fields-read (fs ++ (lengthField body ∷ [])) (all-push Plain fs (lengthField body) (canonical-plain fs h) (length-plain body));
-  size-given = λ m fs body a b h o l s. size-past m fs (lengthField body ∷ []) h ∙ ap exactly (decimal-back (length body) (omega arith));
+  size-given = λ m fs body a b h o l s. size-past m fs (lengthField body ∷ []) h ∙ ap exactly (read-back Decimal (length body) (omega arith));
   size-none = λ m fs a b h o l. ap (readSize m) (sym (append-nil fs)) ∙ size-past m fs [] h;
 }

@@ -11,7 +11,8 @@ use Rattle.std.proofs.shelf.Lists.{length-append, length-reverse, reverse-appen
 use Rattle.text.specs.Bytes.{Text, blank, all}
 use Rattle.text.specs.Trims.{trimmedFront, trimmedBack, trimmed}
 use Rattle.text_laws.specs.Laws.{blankFirst, blankLast, TrimsTo, Trims}
-use Rattle.text_laws.proofs.Fronts.{exactly, and-i, and-l, and-r, all-append, stops, split, leading-at}
+use Rattle.text.proofs.Passing.{and-i, and-l, and-r, all-append}
+use Rattle.text_laws.proofs.Fronts.{exactly, stops, split, leading-at}
 
 all-reverse : (p : ℕ → Bool) (t : Text) → T (all p t) → T (all p (reverse t))
 unfolding all

@@ -1,5 +1,5 @@
--- Tests on every byte of a text, a text cut where a test first fails, and when a function is what a relation says.
-use mathlib.Core.Bool.{Bool, true, false, not, _&&_}
+-- A text cut where a test first fails, and when a function is what a relation says.
+use mathlib.Core.Bool.{Bool, true, false, not}
 use mathlib.Core.List.{[], _∷_, _++_}
 use mathlib.Core.Path.{_≡_, refl, sym, ap, subst, _∙_}
 use Prim.Native.Nat.{ℕ}
@@ -8,38 +8,12 @@ use lib.Dec.{T}
 use lib.ListN.{length}
 use Rattle.std.specs.shelf.Lists.{leading}
 use Rattle.text.specs.Bytes.{Text, all}
+use Rattle.text.proofs.Passing.{is-true, is-false, and-l, and-r}
 use Rattle.text_laws.specs.Laws.{Iff}
 
 -- a function is what a relation says where every text is related to something, and to nothing but the function's value
 pub exactly : {A : Type 0} (f : Text → A) (R : Text → A → Type 0) → ((t : Text) → (a : A) × R t a) → ((t : Text) (a : A) → R t a → f t ≡ a) → (t : Text) (a : A) → Iff (f t ≡ a) (R t a)
 exactly f R some only t a = (λ e. subst (R t) (sym (only t (some t .0) (some t .1)) ∙ e) (some t .1), only t a)
-
--- a test that passed is true, and one that failed is false
-pub is-true : (a : Bool) → T a → a ≡ true
-is-true true h = refl
-is-true false h = absurd h
-
-pub is-false : (a : Bool) → T (not a) → a ≡ false
-is-false true h = absurd h
-is-false false h = refl
-
--- both of two tests
-pub and-i : (a b : Bool) → T a → T b → T (a && b)
-and-i true b g h = h
-and-i false b g h = absurd g
-
-pub and-l : (a b : Bool) → T (a && b) → T a
-and-l true b h = tt
-and-l false b h = absurd h
-
-pub and-r : (a b : Bool) → T (a && b) → T b
-and-r true b h = h
-and-r false b h = absurd h
-
-pub all-append : (p : ℕ → Bool) (s t : Text) → T (all p s) → T (all p t) → T (all p (s ++ t))
-unfolding all
-all-append p [] t g h = h
-all-append p (c ∷ s) t g h = and-i (p c) (all p (s ++ t)) (and-l (p c) (all p s) g) (all-append p s t (and-r (p c) (all p s) g) h)
 
 -- the first byte, where there is one, fails the test
 abbrev pub stops : (ℕ → Bool) → Text → Bool

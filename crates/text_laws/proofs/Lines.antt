@@ -12,7 +12,8 @@ use Rattle.std.proofs.shelf.Tests.{le-leb, lt-leb, ne-eqb, eqb-true, or-cases, 
 use Rattle.text.specs.Bytes.{Text, clean, lineEnd}
 use Rattle.text.specs.Cuts.{LineCut, whole, short, stray, cutAt, cutLine}
 use Rattle.text_laws.specs.Laws.{Iff, WholeLine, ShortLine, StrayLine, Strays, lone-lf, lone-cr}
-use Rattle.text_laws.proofs.Fronts.{exactly, is-false, stops, split, leading-at}
+use Rattle.text.proofs.Passing.{is-false}
+use Rattle.text_laws.proofs.Fronts.{exactly, stops, split, leading-at}
 
 -- what the laws say of each cut
 abbrev Found : Text → LineCut → Type 0

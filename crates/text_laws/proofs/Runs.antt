@@ -7,7 +7,8 @@ use lib.Dec.{T}
 use Rattle.text.specs.Bytes.{Text, blank, all}
 use Rattle.text.specs.Trims.{squeezedAfter, squeezed}
 use Rattle.text_laws.specs.Laws.{blankFirst, SqueezesTo, none, byte, run, Squeezes}
-use Rattle.text_laws.proofs.Fronts.{exactly, is-true, is-false, and-i, and-l, and-r}
+use Rattle.text.proofs.Passing.{is-true, is-false, and-i, and-l, and-r}
+use Rattle.text_laws.proofs.Fronts.{exactly}
 
 -- nothing is kept of what is left of a run
 run-off : (cs t : Text) → T (all blank cs) → T (not (blankFirst t)) → squeezedAfter true (cs ++ t) ≡ squeezed t
