@@ -1,0 +1,4 @@
+pub mod Cutting
+pub mod Judging
+pub mod Spelling
+pub mod Adding

@@ -1,0 +1,7 @@
+pub mod Words
+pub mod Cuts
+pub mod Series
+pub mod Payloads
+pub mod Statements
+pub mod Settings
+pub mod Scripts
