@@ -19,9 +19,11 @@ use Rattle.text.specs.Trims.{trimmed, trimmedFront, trimmedBack}
 use Rattle.message.specs.Fields.{Field, canonicalField, canonicalFields, canonicalValue, valueTail, lowerNameByte, lineOf, fieldLines, dropped, contentLength, transferEncoding}
 use Rattle.request.specs.Canonical.{canonicalMethod, beginsWithSlash, canonicalTarget, lengthField, firstLine, version}
 use Rattle.reader.specs.Reader.{Cut, Short, Line, Many, One}
-use Rattle.reader.specs.Strict.{before, splitLine, Divided, frontMore, divide, askOf, askFrom, readAsk, valueByte, fieldOf, readFields, valuesOf, exactly, readSize}
+use Rattle.reader.specs.Strict.{before, splitLine, askOf, askFrom, readAsk, valueByte, fieldOf, readFields, valuesOf, exactly, readSize}
 use Rattle.reader.specs.Laws.{StrictIsFair}
 use Rattle.text.proofs.Passing.{is-true, is-false, and-l, and-r, notEnd, so, differs, all-weaker}
+use Rattle.std.specs.Options.{mapped}
+use Rattle.text.specs.Marks.{cutAt}
 use Rattle.text.specs.declared.numeral.Base.the-variants.{Decimal}
 use Rattle.text_laws.proofs.Digits.{read-back}
 use Rattle.reader.proofs.Plain.{Plain, canonical-plain, length-plain, value-bytes}
@@ -39,12 +41,12 @@ split-past found more s e [] h = e
 split-past found more s e (c ∷ l) h =
     split-step c (l ++ s) (and-l (notEnd c) (clean l) h) ∙ ap (before c) (split-past found more s e l (and-r (notEnd c) (clean l) h)) ∙ more c l
 
--- a text without the byte b, then b: the text is the front half
-divide-at : (b : ℕ) (p : ℕ → Bool) → p b ≡ false → (t s : Text) → T (all p t) → divide b (t ++ (b ∷ s)) ≡ Divided t s
-unfolding all divide
-divide-at b p e [] s h = cond-true (eqb b b) (Divided [] s) (frontMore b (divide b s)) (eq-eqb b b refl)
-divide-at b p e (c ∷ t) s h =
-    cond-false (eqb c b) (Divided [] (t ++ (b ∷ s))) (frontMore c (divide b (t ++ (b ∷ s)))) (differs p b c e (and-l (p c) (all p t) h)) ∙ ap (frontMore c) (divide-at b p e t s (and-r (p c) (all p t) h))
+-- a text without the byte b, then b: the text is what stands before the cut
+cut-at : (b : ℕ) (p : ℕ → Bool) → p b ≡ false → (t s : Text) → T (all p t) → cutAt b (t ++ (b ∷ s)) ≡ Some (t, s)
+unfolding all cutAt
+cut-at b p e [] s h = cond-true (eqb b b) _ _ (eq-eqb b b refl)
+cut-at b p e (c ∷ t) s h =
+    cond-false (eqb c b) _ _ (differs p b c e (and-l (p c) (all p t) h)) ∙ ap (mapped (λ q. (c ∷ q .0, q .1))) (cut-at b p e t s (and-r (p c) (all p t) h))
 
 -- a target that begins with a slash has some bytes
 slash-some : (t : Text) → T (beginsWithSlash t) → T (nonempty t)
@@ -59,7 +61,7 @@ ask-read m t g h =
     let b : T (all upper m) = search (and-l, and-r) in
     let c : T (nonempty t) = slash-some t (and-l (beginsWithSlash t) (all visible t) h) in
     let d : T (all visible t) = search (and-l, and-r) in
-    ap askOf (divide-at 32 upper refl m (t ++ (32 ∷ version)) b) ∙ ap (askFrom m) (divide-at 32 visible refl t version d) ∙
+    ap askOf (cut-at 32 upper refl m (t ++ (32 ∷ version)) b) ∙ ap (askFrom m) (cut-at 32 visible refl t version d) ∙
     rw (is-true (nonempty m) a, is-true (all upper m) b, is-true (nonempty t) c, is-true (all visible t) d)
 
 -- names and values as they stand
@@ -102,10 +104,10 @@ value-trimmed v h =
     let front : trimmedFront (32 ∷ v) ≡ v = ap (λ n. drop (1 + n) (32 ∷ v)) (front-bare v h) in
     ap trimmedBack front ∙ ap (λ n. take (length v - n) v) (back-bare v h) ∙ take-all (length v - 0) v (omega arith)
 
-field-read : (f : Field) → Plain f → fieldOf (divide 58 (lineOf f)) ≡ Some f
+field-read : (f : Field) → Plain f → fieldOf (cutAt 58 (lineOf f)) ≡ Some f
 unfolding all
 field-read f p =
-    ap fieldOf (divide-at 58 lowerNameByte refl (f .name) (32 ∷ f .value) (p .name)) ∙
+    ap fieldOf (cut-at 58 lowerNameByte refl (f .name) (32 ∷ f .value) (p .name)) ∙
     rw (is-true (nonempty (f .name)) (p .some), is-true (all nameByte (f .name)) (all-weaker lowerNameByte nameByte name-byte (f .name) (p .name)), is-true (all valueByte (f .value)) (value-bytes (f .value) (p .value)), name-lowered (f .name) (p .name), value-trimmed (f .value) (p .value))
 
 fields-read : (fs : List Field) → All Plain fs → readFields (fieldLines fs) ≡ Many fs

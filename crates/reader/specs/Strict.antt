@@ -6,6 +6,7 @@ use lib.Dec.{eqb}
 use Rattle.std.specs.declared.option.Option.{Option}
 use Rattle.std.specs.declared.option.Option.the-variants.{Some, None}
 use Rattle.text.specs.Bytes.{Text, upper, visible, blank, nameByte, all, same, lowered, nonempty}
+use Rattle.text.specs.Marks.{cutAt}
 use Rattle.text.specs.Trims.{trimmed}
 use Rattle.text.specs.Numerals.{numberOf}
 use Rattle.text.specs.declared.numeral.Base.the-variants.{Decimal}
@@ -24,43 +25,28 @@ splitLine [] = Short
 splitLine (c ∷ []) = Short
 splitLine (c ∷ d ∷ cs) = cond (eqb c 13 && eqb d 10) (Line [] cs) (before c (splitLine (d ∷ cs)))
 
--- a text in two halves, or not to be divided
-pub data Halves : Type 0 where
-  Undivided : Halves
-  Divided : (front back : Text) → Halves
-
--- halves with one byte more at the front
-abbrev pub frontMore : ℕ → Halves → Halves
-frontMore c Undivided = Undivided
-frontMore c (Divided f k) = Divided (c ∷ f) k
-
--- what stands before the first byte b, and what stands after it
-unfoldable pub divide : ℕ → Text → Halves
-divide b [] = Undivided
-divide b (c ∷ cs) = cond (eqb c b) (Divided [] cs) (frontMore c (divide b cs))
-
 -- target and version, where the method was read before
-abbrev pub askFrom : Text → Halves → Ask
-askFrom m Undivided = NotOne
-askFrom m (Divided t v) = cond (nonempty m && all upper m && nonempty t && all visible t && same v version) (One m t) NotOne
+abbrev pub askFrom : Text → Option (Text × Text) → Ask
+askFrom m None = NotOne
+askFrom m (Some (t, v)) = cond (nonempty m && all upper m && nonempty t && all visible t && same v version) (One m t) NotOne
 
 -- the method, and what follows it
-abbrev pub askOf : Halves → Ask
-askOf Undivided = NotOne
-askOf (Divided m rest) = askFrom m (divide 32 rest)
+abbrev pub askOf : Option (Text × Text) → Ask
+askOf None = NotOne
+askOf (Some (m, rest)) = askFrom m (cutAt 32 rest)
 
 -- a first line: method, space, target, space, version
 abbrev pub readAsk : Text → Ask
-readAsk l = askOf (divide 32 l)
+readAsk l = askOf (cutAt 32 l)
 
 -- a byte of a field's value: visible, space or tab
 abbrev pub valueByte : ℕ → Bool
 valueByte c = visible c || blank c
 
 -- a field's line: name, colon, value; the name in lower case, the value without the spaces and tabs at its ends
-abbrev pub fieldOf : Halves → Option Field
-fieldOf Undivided = None
-fieldOf (Divided n v) = cond (nonempty n && all nameByte n && all valueByte v) (Some record { name = lowered n; value = trimmed v }) None
+abbrev pub fieldOf : Option (Text × Text) → Option Field
+fieldOf None = None
+fieldOf (Some (n, v)) = cond (nonempty n && all nameByte n && all valueByte v) (Some record { name = lowered n; value = trimmed v }) None
 
 -- one field more in front of others; none at all where one line is no field
 abbrev pub oneMore : Option Field → Fields → Fields
@@ -71,7 +57,7 @@ oneMore (Some f) (Many fs) = Many (f ∷ fs)
 -- the lines after the first, each as a field
 unfoldable pub readFields : List Text → Fields
 readFields [] = Many []
-readFields (l ∷ ls) = oneMore (fieldOf (divide 58 l)) (readFields ls)
+readFields (l ∷ ls) = oneMore (fieldOf (cutAt 58 l)) (readFields ls)
 
 -- the values of the fields of a name
 unfoldable pub valuesOf : Text → List Field → List Text

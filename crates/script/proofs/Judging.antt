@@ -9,12 +9,12 @@ use Rattle.std.specs.declared.option.Option.the-variants.{Some, None}
 use Rattle.std.specs.declared.result.Result.{Result}
 use Rattle.std.specs.declared.result.Result.the-variants.{Ok, Err}
 use Rattle.text.specs.Bytes.{Text}
-use Rattle.script.specs.Cuts.{cutAt, split}
+use Rattle.text.specs.Marks.{cutAt, split}
 use Rattle.script.specs.Words.{goodWord}
 use Rattle.script.specs.Series.{wordOf, markOf, wrongOf, tooManyOf, judged}
 use Rattle.script.specs.declared.problem.Problem.{Problem}
 use Rattle.script.specs.declared.series.Series.{Series}
-use Rattle.script.proofs.Cutting.{pieced, split-cut}
+use Rattle.text.proofs.Marking.{pieced, split-cut}
 
 one : {X : Type 0} (s : Series) (x : X) (k : ℕ) (t : Text) (ts : List Text) → 0 < k → judged s x k (t ∷ ts) ≡ cond (goodWord (wordOf s) t) (judged s x (k - 1) ts) (Err (wrongOf s))
 unfolding judged

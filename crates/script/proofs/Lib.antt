@@ -1,4 +1,3 @@
-pub mod Cutting
 pub mod Judging
 pub mod Spelling
 pub mod Adding

@@ -1,5 +1,4 @@
 pub mod Words
-pub mod Cuts
 pub mod Series
 pub mod Payloads
 pub mod Statements

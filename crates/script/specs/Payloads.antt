@@ -16,7 +16,7 @@ use Rattle.std.specs.Results.{Cases}
 use Rattle.text.specs.Bytes.{Text, between}
 use Rattle.text.specs.Numerals.{digitValue, onDigit}
 use Rattle.text.specs.declared.numeral.Base.the-variants.{Hexadecimal}
-use Rattle.script.specs.Cuts.{restAfter}
+use Rattle.text.specs.Marks.{restAfter}
 use Rattle.script.specs.Series.{onRest}
 use Rattle.script.specs.declared.payload.Mode.{Mode}
 use Rattle.script.specs.declared.payload.Mode.the-variants.{Start, Whole, Half, Plain, Escape, First, Second, Closed}

@@ -10,7 +10,7 @@ use Rattle.std.specs.declared.result.Result.{Result}
 use Rattle.std.specs.declared.result.Result.the-variants.{Ok, Err}
 use Rattle.std.specs.Results.{Cases}
 use Rattle.text.specs.Bytes.{Text}
-use Rattle.script.specs.Cuts.{restAfter, split}
+use Rattle.text.specs.Marks.{restAfter, split}
 use Rattle.script.specs.Words.{goodWord}
 use Rattle.script.specs.declared.problem.Problem.{Problem}
 use Rattle.script.specs.declared.problem.Problem.the-variants as problem

@@ -13,7 +13,7 @@ use Rattle.std.specs.declared.result.Result.the-variants.{Ok, Err}
 use Rattle.text.specs.Bytes.{Text}
 use Rattle.text.specs.Numerals.{digitValue, onDigit}
 use Rattle.text.specs.declared.numeral.Base.the-variants.{Decimal}
-use Rattle.script.specs.Cuts.{restAfter, cutAt}
+use Rattle.text.specs.Marks.{restAfter, cutAt}
 use Rattle.script.specs.Words.{goodWord}
 use Rattle.script.specs.Series.{onRest, methodsOf, methodsIn, partsOf, partsIn}
 use Rattle.script.specs.Payloads.{payloadOf, bytesIn, spelled}

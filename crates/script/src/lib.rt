@@ -1,7 +1,6 @@
 // Scripts: settings and events as text, one statement a line. A line is read into a statement or a named problem (`read`), an event's
 // bytes are spelled out (`payload`), and statements are taken one after the other (`reader`), into settings (`settings`).
 // specs/Statements.antt is the grammar, specs/Scripts.antt what a line makes of a script.
-mod cut;
 pub mod payload;
 pub mod problem;
 pub mod read;

@@ -6,9 +6,9 @@ ghost use Rattle.std.specs.Options.{isSome};
 ghost use Rattle.std.specs.Of.Vec.{vec-items, vec-cap};
 ghost use Rattle.std.specs.Vec.{made};
 ghost use Rattle.script.specs.Payloads.{startOf, faultOf, hexByte, escaped, putOf, moveOf, ends, spelled, textOf, payloadOf, viewPayload, Decoded};
-use crate::cut::after;
 use crate::problem::Problem;
 use crate::problem::ProblemFromRefused;
+use text::mark::after;
 use text::numeral::Base;
 
 #[derive(Clone, Copy)]

@@ -4,8 +4,6 @@ ghost use mathlib.Core.Path.{_≡_};
 ghost use Prim.Native.Nat.{_≤_};
 ghost use Rattle.std.specs.Vec.{made};
 ghost use Rattle.script.specs.Statements.{view, Sound, statementOf, serverOf, ruleOf, eventOf, sentOf, numberIn, senderIn, mostSenders, senderFault, passedOver};
-use crate::cut::after;
-use crate::cut::cut;
 use crate::payload::read_payload;
 use crate::problem::Problem;
 use crate::series::check_methods;
@@ -16,6 +14,8 @@ use crate::statement::Sender;
 use crate::statement::Statement;
 use crate::statement::Verdict;
 use crate::word::Word;
+use text::mark::after;
+use text::mark::cut;
 use text::numeral::Base;
 
 // The side that an event comes from.

@@ -2,10 +2,10 @@
 // the count of pieces is the bound of the loop.
 ghost use mathlib.Core.Path.{_≡_};
 ghost use Rattle.script.specs.Series.{Checks, wordOf, markOf, mostOf, wrongOf, tooManyOf, piecesOf, piecesIn, methodsOf, methodsIn, partsOf, partsIn};
-use crate::cut::after;
-use crate::cut::cut;
 use crate::problem::Problem;
 use crate::word::Word;
+use text::mark::after;
+use text::mark::cut;
 
 #[derive(Clone, Copy)]
 pub enum Series {

@@ -1,5 +1,4 @@
 // The edges of the grammar: what each limit lets through, and which problem is named past it.
-use crate::cut::cut;
 use crate::payload::read_payload;
 use crate::problem::Problem;
 use crate::problem::ProblemDebug;
@@ -10,6 +9,7 @@ use crate::reader::Reader;
 use std::alloc::AllocError;
 use std::alloc::Global;
 use std::test::*;
+use text::mark::cut;
 
 fn problem_in(line: &[u8]) -> Option<Problem> {
     match read_statement(line) {

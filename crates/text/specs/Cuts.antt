@@ -27,15 +27,15 @@ abbrev pub beforeEnd : Text → ℕ
 beforeEnd t = leading (λ c. not (lineEnd c)) t
 
 -- cut at a CR or LF that stands at n
-abbrev pub cutAt : ℕ → Text → LineCut
-cutAt n t =
+abbrev pub cutEnd : ℕ → Text → LineCut
+cutEnd n t =
     cond (leb (length t) n) short
     (cond (eqb (getD t n 0) 10) (stray n)
     (cond (leb (length t) (n + 1)) short
     (cond (eqb (getD t (n + 1) 0) 10) (whole (take n t) (drop (n + 2) t)) (stray n))))
 
 abbrev pub cutLine : Text → LineCut
-cutLine t = cutAt (beforeEnd t) t
+cutLine t = cutEnd (beforeEnd t) t
 
 -- how long the parts of a cut are, for callers' sums
 abbrev pub CutLong : ℕ → Cut → Type 0

@@ -3,3 +3,4 @@ pub mod Kinds
 pub mod Trims
 pub mod Numerals
 pub mod Cuts
+pub mod Marks

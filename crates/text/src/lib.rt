@@ -2,6 +2,7 @@
 // definition on lists of bytes in specs/, which the crates above share.
 pub mod kind;
 pub mod line;
+pub mod mark;
 pub mod name;
 pub mod numeral;
 pub mod output;

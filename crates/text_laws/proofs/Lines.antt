@@ -10,7 +10,7 @@ use lib.ListN.{length, drop}
 use Rattle.std.proofs.shelf.Lists.{length-append, getD-at, getD-append-add, take-at, drop-at, drop-drop}
 use Rattle.std.proofs.shelf.Tests.{le-leb, lt-leb, ne-eqb, eqb-true, or-cases, cases-eq, not-false}
 use Rattle.text.specs.Bytes.{Text, clean, lineEnd}
-use Rattle.text.specs.Cuts.{LineCut, whole, short, stray, cutAt, cutLine}
+use Rattle.text.specs.Cuts.{LineCut, whole, short, stray, cutEnd, cutLine}
 use Rattle.text_laws.specs.Laws.{Iff, WholeLine, ShortLine, StrayLine, Strays, lone-lf, lone-cr}
 use Rattle.text.proofs.Passing.{is-false}
 use Rattle.text_laws.proofs.Fronts.{exactly, stops, split, leading-at}
@@ -33,7 +33,7 @@ abbrev cutOf : Text → Text → LineCut
 cutOf l [] = short
 cutOf l (c ∷ s) = cond (eqb c 10) (stray (length l)) (cutBehind l s)
 
-cut-at : (l s : Text) → cutAt (length l) (l ++ s) ≡ cutOf l s
+cut-at : (l s : Text) → cutEnd (length l) (l ++ s) ≡ cutOf l s
 cut-at l [] = let all : length (l ++ []) ≤ length l = simp append-nil (omega arith) in rw (le-leb _ _ all)
 cut-at l (c ∷ []) =
     let some : length l < length (l ++ (c ∷ [])) = simp length-append (omega arith) in
@@ -47,7 +47,7 @@ cut-at l (c ∷ d ∷ s) =
     rw (lt-leb _ _ some, getD-at l c (d ∷ s) 0 (length l) refl, lt-leb _ _ more, getD-append-add l (c ∷ d ∷ s) 1 0, take-at l (c ∷ d ∷ s) (length l) refl, rest)
 
 cut : (l s : Text) → T (clean l) → T (stops notEnd s) → cutLine (l ++ s) ≡ cutOf l s
-cut l s g h = ap (λ n. cutAt n (l ++ s)) (leading-at notEnd l s g h) ∙ cut-at l s
+cut l s g h = ap (λ n. cutEnd n (l ++ s)) (leading-at notEnd l s g h) ∙ cut-at l s
 
 cut-stray : (l s : Text) → Strays s → T (stops notEnd s) × (cutOf l s ≡ stray (length l))
 cut-stray l s lone-lf = (tt, refl)

@@ -1,7 +1,7 @@
 use mathlib.Core.Path.{_≡_, ap, _∙_}
 use lib.Chars.{codes}
 use Rattle.std.specs.declared.result.Result.the-variants.{Err}
-use Rattle.script.specs.Cuts.{restAfter}
+use Rattle.text.specs.Marks.{restAfter}
 use Rattle.script.specs.Series.{onRest}
 use Rattle.script.specs.Statements.{eventOf}
 use Rattle.script.specs.declared.problem.Problem.the-variants.{UnknownStatement}

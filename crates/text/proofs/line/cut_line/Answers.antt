@@ -6,7 +6,7 @@ use native.Mathlib.Omega.{arith}
 use lib.ListN.{length, take, drop, getD}
 use Rattle.std.proofs.shelf.Lists.{take-rest, length-take, length-drop}
 use Rattle.std.proofs.shelf.Tests.{lt-leb, eq-eqb, ne-eqb}
-use Rattle.text.specs.Cuts.{cutAt, cutLine, beforeEnd, whole}
+use Rattle.text.specs.Cuts.{cutEnd, cutLine, beforeEnd, whole}
 use Rattle.text.proofs.line.cut_line.Needs as need
 
 a-line : (n : ℕ) (xs : List ℕ) → n ≡ beforeEnd xs → n + 1 < length xs → (getD xs n 0 ≡ 10 → ⊥) → getD xs (n + 1) 0 ≡ 10 → whole (take (n - 0) xs) (take (length xs - (n + 2)) (drop (n + 2) xs)) ≡ cutLine xs
@@ -16,8 +16,8 @@ a-line n xs e h f g =
     let u = ne-eqb (getD xs n 0) 10 f in
     let v = lt-leb (length xs) (n + 1) h in
     let w = eq-eqb (getD xs (n + 1) 0) 10 g in
-    let is : whole (take (n - 0) xs) (take (length xs - (n + 2)) (drop (n + 2) xs)) ≡ cutAt n xs = rw (sub-zero, take-rest, t, u, v, w) in
-    is ∙ ap (λ m. cutAt m xs) e
+    let is : whole (take (n - 0) xs) (take (length xs - (n + 2)) (drop (n + 2) xs)) ≡ cutEnd n xs = rw (sub-zero, take-rest, t, u, v, w) in
+    is ∙ ap (λ m. cutEnd m xs) e
 
 pub returns : need.returns
 returns c =

@@ -9,7 +9,7 @@ use Rattle.std.specs.declared.result.Result.{Result}
 use Rattle.std.specs.declared.result.Result.the-variants.{Ok, Err}
 use Rattle.std.proofs.shelf.Tests.{cond-true, cond-false}
 use Rattle.text.specs.Bytes.{Text}
-use Rattle.script.specs.Cuts.{cutAt}
+use Rattle.text.specs.Marks.{cutAt}
 use Rattle.script.specs.Words.{goodWord}
 use Rattle.script.specs.Series.{wordOf, markOf, mostOf, wrongOf, judged, piecesIn}
 use Rattle.script.proofs.Judging.{judged-last, judged-next, judged-over}

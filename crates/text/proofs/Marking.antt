@@ -10,8 +10,8 @@ use Rattle.std.specs.declared.option.Option.the-variants.{Some, None}
 use Rattle.std.specs.Options.{mapped}
 use Rattle.std.proofs.shelf.Lists.{append-nil, take-more, drop-more, drop-all}
 use Rattle.std.proofs.shelf.Tests.{eq-eqb, ne-eqb, cond-true, cond-false}
 use Rattle.text.specs.Bytes.{Text}
-use Rattle.script.specs.Cuts.{restAfter, cutAt, split, onFirst}
+use Rattle.text.specs.Marks.{restAfter, cutAt, split, onFirst}
 
 pub after-short : (ws cs : Text) (i : ℕ) → i < length ws → length cs ≤ i → restAfter (drop i ws) (drop i cs) ≡ None
 unfolding restAfter

@@ -1,8 +1,8 @@
 use mathlib.Core.Path.{_≡_}
 use lib.ListN.{take, drop}
-use Rattle.script.specs.Cuts.{cutAt}
-use Rattle.script.proofs.Cutting.{behind}
-use Rattle.script.proofs.cut.cut.Given as given
+use Rattle.text.specs.Marks.{cutAt}
+use Rattle.text.proofs.Marking.{behind}
+use Rattle.text.proofs.mark.cut.Given as given
 
 abbrev pub Inv-loop-i : given.InvT-loop-i
 Inv-loop-i l = behind (take (l .i) (l .s)) (cutAt (l .mark) (drop (l .i) (l .s))) ≡ cutAt (l .mark) (l .s)

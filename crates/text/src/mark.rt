@@ -1,7 +1,7 @@
 // Lines cut into words: after a word that they begin with, and at the first of a mark.
 ghost use mathlib.Core.Path.{_≡_};
 ghost use Rattle.std.specs.Options.{mapped};
-ghost use Rattle.script.specs.Cuts.{restAfter, cutAt};
+ghost use Rattle.text.specs.Marks.{restAfter, cutAt};
 
 // What follows a word that the line begins with.
 pub fn after<'a>(line: &'a [u8], word: &[u8]) -> Option<&'a [u8]>

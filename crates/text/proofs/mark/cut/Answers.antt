@@ -5,9 +5,9 @@ use native.Mathlib.Omega.{arith}
 use lib.ListN.{length, take, drop}
 use Rattle.std.specs.declared.option.Option.the-variants.{Some}
 use Rattle.std.proofs.shelf.Lists.{take-rest}
-use Rattle.script.specs.Cuts.{cutAt}
-use Rattle.script.proofs.Cutting.{behind-none, cut-here, cut-later, cut-nowhere}
-use Rattle.script.proofs.cut.cut.Needs as need
+use Rattle.text.specs.Marks.{cutAt}
+use Rattle.text.proofs.Marking.{behind-none, cut-here, cut-later, cut-nowhere}
+use Rattle.text.proofs.mark.cut.Needs as need
 
 pub loop-i-holds : need.loop-i-holds
 loop-i-holds c = behind-none (cutAt (c .args .mark) (c .args .s .now))

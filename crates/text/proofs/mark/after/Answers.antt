@@ -5,8 +5,8 @@ use lib.ListN.{length, drop, getD}
 use Rattle.std.specs.declared.option.Option.the-variants.{Some}
 use Rattle.std.proofs.shelf.Lists.{take-rest}
 use Rattle.std.proofs.shelf.Tests.{eq-eqb, ne-eqb, cond-true, cond-false}
-use Rattle.script.proofs.Cutting.{after-short, after-one, after-all}
-use Rattle.script.proofs.cut.after.Needs as need
+use Rattle.text.proofs.Marking.{after-short, after-one, after-all}
+use Rattle.text.proofs.mark.after.Needs as need
 
 pub returns-then-i-line : need.returns-then-i-line
 returns-then-i-line c = sym (after-short (c .args .word .now) (c .args .line .now) (c .loop-i .i) (omega arith) (omega arith)) ∙ c .loop-i .inv .1
