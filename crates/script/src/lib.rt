@@ -8,6 +8,4 @@ pub mod reader;
 mod series;
 pub mod settings;
 pub mod statement;
-#[cfg(test)]
-mod tests;
 mod word;

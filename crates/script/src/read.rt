@@ -20,7 +20,7 @@ use text::numeral::Base;
 
 // The side that an event comes from.
 #[derive(Clone, Copy)]
-enum Side {
+pub enum Side {
     Client,
     Server,
 }

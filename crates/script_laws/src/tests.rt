@@ -1,15 +1,14 @@
 // The edges of the grammar: what each limit lets through, and which problem is named past it.
-use crate::payload::read_payload;
-use crate::problem::Problem;
-use crate::problem::ProblemDebug;
-use crate::problem::ProblemFromAlloc;
-use crate::problem::ProblemPartialEq;
-use crate::read::read_statement;
-use crate::reader::Reader;
+use script::problem::Problem;
+use script::problem::ProblemDebug;
+use script::problem::ProblemFromAlloc;
+use script::problem::ProblemPartialEq;
+use script::read::read_statement;
+use script::reader::Reader;
+use script::statement::Statement;
 use std::alloc::AllocError;
 use std::alloc::Global;
 use std::test::*;
-use text::mark::cut;
 
 fn problem_in(line: &[u8]) -> Option<Problem> {
     match read_statement(line) {
@@ -32,25 +31,27 @@ fn problem_in_long(
     Ok(problem_in(&line))
 }
 
-// The first thing that is wrong with a script of a few lines.
-fn problem_in_script(heap: Global, script: &[u8]) -> Option<Problem> {
+fn read_lines(heap: Global, a: &[u8], b: &[u8], c: &[u8]) -> Result<(), Problem> {
     let mut reader = Reader::new(heap);
-    let mut rest = script;
-    for _ in 0..100 {
-        let Some((line, more)) = cut(rest, b'\n') else {
-            return None;
-        };
-        if let Err(problem) = reader.read_line(heap, line) {
-            return Some(problem);
-        }
-        rest = more;
-    }
-    None
+    let _ = reader.read_line(heap, a)?;
+    let _ = reader.read_line(heap, b)?;
+    let _ = reader.read_line(heap, c)?;
+    Ok(())
 }
 
-fn decodes(heap: Global, word: &[u8], bytes: &[u8]) -> Result<bool, Problem> {
+// The first thing that is wrong with a script of three lines.
+fn problem_in_script(heap: Global, a: &[u8], b: &[u8], c: &[u8]) -> Option<Problem> {
+    match read_lines(heap, a, b, c) {
+        Ok(()) => None,
+        Err(problem) => Some(problem),
+    }
+}
+
+fn decodes(heap: Global, line: &[u8], bytes: &[u8]) -> Result<bool, Problem> {
     let mut out = Vec::from_slice(heap, b"before")?;
-    read_payload(word)?.decode(&mut out)?;
+    if let Statement::Event(event) = read_statement(line)? {
+        event.payload.decode(&mut out)?;
+    }
     Ok(out.as_slice() == bytes)
 }
 
@@ -77,7 +78,7 @@ fn names(rt: LibcRuntime) -> Result<(), Fail> {
 }
 
 #[test]
-fn methods(rt: LibcRuntime) -> Result<(), Fail> {
+fn methods() -> Result<(), Fail> {
     check_eq(problem_in(b"allow - /"), None)?;
     check_eq(problem_in(b"allow A,B,C,D,E,F,G,H /"), None)?;
     check_eq(
@@ -124,12 +125,12 @@ fn senders() -> Result<(), Fail> {
 
 #[test]
 fn payloads(rt: LibcRuntime) -> Result<(), Fail> {
-    check(decodes(rt.alloc(), b"00fFA9", b"\x00\xff\xa9")?)?;
-    check(decodes(rt.alloc(), b"\"\"", b"")?)?;
+    check(decodes(rt.alloc(), b"from client 1 00fFA9", b"\x00\xff\xa9")?)?;
+    check(decodes(rt.alloc(), b"from client 1 \"\"", b"")?)?;
     check(
         decodes(
             rt.alloc(),
-            b"\" ~\\r\\n\\t\\\\\\\"\\xaF\"",
+            b"from client 1 \" ~\\r\\n\\t\\\\\\\"\\xaF\"",
             b" ~\r\n\t\\\"\xaf",
         )?,
     )
@@ -158,23 +159,23 @@ fn misspelled() -> Result<(), Fail> {
 fn scripts(rt: LibcRuntime) -> Result<(), Fail> {
     let heap = rt.alloc();
     check_eq(
-        problem_in_script(heap, b"server a\nallow GET /\nserver b\nfrom server 2 00\n"),
+        problem_in_script(heap, b"server a", b"allow GET /", b"from server 1 00"),
         None,
     )?;
     check_eq(
-        problem_in_script(heap, b"server a\nserver A\n"),
+        problem_in_script(heap, b"server a", b"", b"server A"),
         Some(Problem::ServerTwice),
     )?;
     check_eq(
-        problem_in_script(heap, b"allow GET /\n"),
+        problem_in_script(heap, b"", b"#", b"allow GET /"),
         Some(Problem::RuleWithoutServer),
     )?;
     check_eq(
-        problem_in_script(heap, b"from client 1 00\nserver a\n"),
+        problem_in_script(heap, b"", b"from client 1 00", b"server a"),
         Some(Problem::SettingAfterEvent),
     )?;
     check_eq(
-        problem_in_script(heap, b"server a\nfrom server 2 00\n"),
+        problem_in_script(heap, b"server a", b"", b"from server 2 00"),
         Some(Problem::UnknownServer),
     )
 }

@@ -1,0 +1,4 @@
+pub mod Spelled
+pub mod Listed
+pub mod Numbered
+pub mod Lined
