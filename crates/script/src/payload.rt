@@ -2,7 +2,9 @@
 // next mode, and a byte that is spelled out where one is complete. A check runs it for its end alone, `decode` for what it puts out.
 ghost use mathlib.Core.Bool.{true};
 ghost use mathlib.Core.Path.{_≡_};
+ghost use mathlib.Core.List.{[]};
 ghost use Rattle.std.specs.Options.{isSome};
+ghost use Rattle.std.specs.Results.{Cases};
 ghost use Rattle.std.specs.Of.Vec.{vec-items, vec-cap};
 ghost use Rattle.std.specs.Vec.{made};
 ghost use Rattle.script.specs.Payloads.{startOf, faultOf, hexByte, escaped, putOf, moveOf, ends, spelled, textOf, payloadOf, viewPayload, Decoded};
@@ -157,8 +159,7 @@ impl<'a> Payload<'a> {
         mode.ends()
     }
 
-    // Empties `out`, and writes the bytes that are spelled.
-    pub fn decode(self, out: &mut Vec<u8>) -> Result<(), Problem>
+    fn spell(self, out: &mut Vec<u8>) -> Result<(), Problem>
         ensures { λ r. ⌜ Decoded (self .entry) (vec-cap (now (out .entry))) (vec-items (now (out .exit))) r ⌝ }
     {
         out.clear();
@@ -179,6 +180,18 @@ impl<'a> Payload<'a> {
         } else {
             Err(self.fault())
         }
+    }
+
+    // Makes `out` hold the bytes that are spelled, or nothing where it is refused.
+    pub fn decode(self, out: &mut Vec<u8>) -> Result<(), Problem>
+        ensures is { λ r. ⌜ Decoded (self .entry) (vec-cap (now (out .entry))) (vec-items (now (out .exit))) r ⌝ }
+        ensures none { λ r. ⌜ Cases r (λ _. Unit {0}) (λ _. vec-items (now (out .exit)) ≡ []) ⌝ }
+    {
+        let result = self.spell(out);
+        if result.is_err() {
+            out.clear();
+        }
+        result
     }
 }
 

@@ -4,7 +4,7 @@ use lib.ListN.{drop}
 use Rattle.std.specs.Of.Vec.{vec-items, vec-len, vec-cap}
 use Rattle.script.specs.Payloads.{spelledFrom}
 use Rattle.script.proofs.Spelling.{joined}
-use Rattle.script.proofs.payload.Payload.decode.Given as given
+use Rattle.script.proofs.payload.Payload.spell.Given as given
 
 -- what was spelled so far, with what is left, is the whole; the room has not shrunk, and each byte put out took at least one to spell
 abbrev pub Inv-loop-b : given.InvT-loop-b

@@ -10,8 +10,8 @@ use Rattle.std.specs.declared.option.Option.the-variants.{Some, None}
 use Rattle.std.proofs.shelf.Results.{err-from-errBy}
 use Rattle.script.specs.Payloads.{spelledFrom, spelled, textOf}
 use Rattle.script.proofs.Spelling.{joined, joined-none, joined-more, joined-end, spelled-one, spelled-end, spelled-is}
-use Rattle.script.proofs.payload.Payload.decode.Needs as need
-use Rattle.script.proofs.payload.Payload.decode.Needs.{in-To, in-Put·in-Continue-push}
+use Rattle.script.proofs.payload.Payload.spell.Needs as need
+use Rattle.script.proofs.payload.Payload.spell.Needs.{in-To, in-Put·in-Continue-push}
 
 pub loop-b-holds : need.loop-b-holds
 loop-b-holds c =
