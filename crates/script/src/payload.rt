@@ -22,7 +22,7 @@ pub enum Payload<'a> {
 }
 
 #[derive(Clone, Copy)]
-pub enum Mode {
+pub(crate) enum Mode {
     // before the first digit
     Start,
     // after two digits
@@ -42,7 +42,7 @@ pub enum Mode {
 }
 
 #[derive(Clone, Copy)]
-pub enum Move {
+pub(crate) enum Move {
     To(Mode),
     Put(u8, Mode),
     Bad,

@@ -20,7 +20,7 @@ use text::numeral::Base;
 
 // The side that an event comes from.
 #[derive(Clone, Copy)]
-pub enum Side {
+enum Side {
     Client,
     Server,
 }

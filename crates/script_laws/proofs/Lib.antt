@@ -1,4 +1,6 @@
-pub mod Spelled
-pub mod Listed
-pub mod Numbered
-pub mod Lined
+pub mod Given
+pub mod Words
+pub mod Rules
+pub mod Spellings
+pub mod Numbers
+pub mod Lines

@@ -1,45 +1,23 @@
-// The grammar of a script's line as a relation between a line's bytes and a statement, and reading held to it: a line is read as a
-// statement exactly where the statement may be written so. specs/Lines.antt says how each may be written.
+// The grammar of a script's line, as texts joined together: a line is read as saying something exactly where the grammar says so.
 ghost use Rattle.std.specs.Results.{Cases};
 ghost use Rattle.script.specs.Statements.{Says, saidBy};
-ghost use Rattle.script_laws.specs.Lines.{Means, PayloadsAsWritten, MethodsAsWritten, PathsAsWritten, LinesAsWritten};
+ghost use Rattle.script_laws.specs.Grammar.{LineSays, ReadIffSays};
 use script::problem::Problem;
 use script::read::read_statement;
 use script::statement::Statement;
 
-// What a line says: a statement that may be written as this line; a problem, where there is none.
+// What a line says, by the grammar; a problem exactly where the grammar has no such line.
 pub fn read(line: &[u8]) -> Result<Statement<'_>, Problem>
-    ensures { λ r. ⌜ Cases r (λ s. Means (now (line .entry)) (saidBy s)) (λ _. (s : Says) → Means (now (line .entry)) s → ⊥) ⌝ }
+    ensures { λ r. ⌜ Cases r (λ s. LineSays (now (line .entry)) (saidBy s)) (λ _. (s : Says) → LineSays (now (line .entry)) s → ⊥) ⌝ }
 {
     read_statement(line)
 }
 
-// An event's bytes are read as they may be written, and only so.
-pub fn payloads_stand() -> bool
-    ensures { λ _. ⌜ PayloadsAsWritten ⌝ }
+// A line is read as saying something exactly where the grammar says so.
+pub fn read_iff_says() -> u8
+    ensures { λ _. ⌜ ReadIffSays ⌝ }
 {
-    true
-}
-
-// So are a rule's methods.
-pub fn methods_stand() -> bool
-    ensures { λ _. ⌜ MethodsAsWritten ⌝ }
-{
-    true
-}
-
-// And its path.
-pub fn paths_stand() -> bool
-    ensures { λ _. ⌜ PathsAsWritten ⌝ }
-{
-    true
-}
-
-// A line is read as a statement exactly where the statement may be written so.
-pub fn lines_stand() -> bool
-    ensures { λ _. ⌜ LinesAsWritten ⌝ }
-{
-    true
+    0
 }
 
 #[cfg(test)]
