@@ -17,7 +17,8 @@ contentLength = codes "content-length"
 abbrev pub transferEncoding : Text
 transferEncoding = codes "transfer-encoding"
 
--- names that no canonical field has: those that concern one connection only, and the two that frame the body, which the gate writes itself
+-- names that no canonical field has: those that concern one connection only (RFC 9110, 7.6.1), and the two that frame the body, which the gate
+-- settles itself
 abbrev pub dropped : List Text
 dropped =
     contentLength ∷ transferEncoding ∷ codes "connection" ∷ codes "keep-alive" ∷ codes "te" ∷ codes "trailer" ∷ codes "upgrade" ∷ codes "expect" ∷ codes "proxy-connection" ∷ []
@@ -26,7 +27,8 @@ dropped =
 abbrev pub lowerNameByte : ℕ → Bool
 lowerNameByte c = between 97 122 c || digit c || eqb c 45
 
--- visible bytes and, inside, single spaces
+-- visible bytes and, inside, single spaces. RFC 9110, 5.5: field-content = field-vchar [ 1*( SP / HTAB / field-vchar ) field-vchar ]. Stricter: no byte
+-- above 126, no tab, no run of spaces
 unfoldable pub valueTail : Text → Bool
 valueTail [] = true
 valueTail (c ∷ []) = visible c
@@ -48,7 +50,7 @@ unfoldable pub canonicalFields : List Field → Bool
 canonicalFields [] = true
 canonicalFields (f ∷ fs) = canonicalField f && canonicalFields fs
 
--- name, colon, space, value
+-- name, colon, space, value. RFC 9112, 5: field-line = field-name ":" OWS field-value OWS
 abbrev pub lineOf : Field → Text
 lineOf f = f .name ++ (58 ∷ 32 ∷ f .value)
 

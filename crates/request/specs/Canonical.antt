@@ -33,7 +33,7 @@ headLimit = 16384
 abbrev pub fieldLimit : ℕ
 fieldLimit = 64
 
--- 1 to 16 letters A to Z
+-- 1 to 16 letters A to Z. RFC 9110, 9.1: method = token
 abbrev pub canonicalMethod : Text → Bool
 canonicalMethod m = nonempty m && leb (length m) 16 && all upper m
 
@@ -41,7 +41,7 @@ unfoldable pub beginsWithSlash : Text → Bool
 beginsWithSlash [] = false
 beginsWithSlash (c ∷ cs) = eqb c 47
 
--- a slash first, and visible bytes. What a path may look like is no matter of reading a head
+-- a slash first, and visible bytes. RFC 9112, 3.2.1: origin-form = absolute-path [ "?" query ]. What a path may look like is no matter of reading a head
 abbrev pub canonicalTarget : Text → Bool
 canonicalTarget t = beginsWithSlash t && all visible t
 
@@ -64,7 +64,7 @@ sentFields q = cond (carriesBody (q .method)) (q .fields ++ (lengthField (q .bod
 abbrev pub fieldsInLimits : List Field → Bool
 fieldsInLimits fs = leb (length fs) fieldLimit && leb (length (linesOf (fieldLines fs))) headLimit
 
--- method, space, target, space, version
+-- method, space, target, space, version. RFC 9112, 3: request-line = method SP request-target SP HTTP-version
 abbrev pub firstLine : Text → Text → Text
 firstLine m t = m ++ (32 ∷ t ++ (32 ∷ version))
 
@@ -82,7 +82,8 @@ unfoldable pub allCanonical : List Req → Bool
 allCanonical [] = true
 allCanonical (q ∷ qs) = canonical q && allCanonical qs
 
--- one request as it is sent: the first line, the fields, an empty line, the body
+-- one request as it is sent: the first line, the fields, an empty line, the body. RFC 9112, 2.1: HTTP-message = start-line CRLF *( field-line CRLF )
+-- CRLF [ message-body ]
 abbrev pub write : Req → Text
 write q = linesOf (headLines q) ++ (13 ∷ 10 ∷ q .body)
 

@@ -25,23 +25,26 @@ digit c = between 48 57 c
 abbrev pub alphanumeric : ℕ → Bool
 alphanumeric c = upper c || between 97 122 c || digit c
 
--- a byte of a field's name as sent: a letter, a digit or a hyphen
+-- a byte of a field's name as sent: a letter, a digit or a hyphen. RFC 9110, 5.1: field-name = token. Stricter than that: servers differ on the
+-- other bytes of a token (some take an underscore for a hyphen)
 abbrev pub nameByte : ℕ → Bool
 nameByte c = alphanumeric c || eqb c 45
 
--- a byte of a server's name: a letter, a digit, a hyphen or a dot
+-- a byte of a server's name: a letter, a digit, a hyphen or a dot. RFC 9110, 7.2: Host = uri-host [ ":" port ]. Stricter: a registered name without
+-- codes, and no port
 abbrev pub hostByte : ℕ → Bool
 hostByte c = nameByte c || eqb c 46
 
--- visible ASCII
+-- visible ASCII. RFC 5234, B.1: VCHAR = %x21-7E
 abbrev pub visible : ℕ → Bool
 visible c = between 33 126 c
 
--- space and tab
+-- space and tab. RFC 9110, 5.6.3: OWS = *( SP / HTAB )
 abbrev pub blank : ℕ → Bool
 blank c = eqb c 32 || eqb c 9
 
--- a byte that stands for itself in a path: letters, digits and - _ ~ . ! $ & ' ( ) * + , = : @
+-- a byte that stands for itself in a path: letters, digits and - _ ~ . ! $ & ' ( ) * + , = : @. RFC 3986, 3.3: pchar = unreserved / pct-encoded /
+-- sub-delims / ":" / "@". Stricter: no ";", at which some servers cut a part
 abbrev pub plainByte : ℕ → Bool
 plainByte c =
     alphanumeric c || eqb c 45 || eqb c 95 || eqb c 126 || eqb c 46 || eqb c 33 || eqb c 36 || eqb c 38 || eqb c 39 || eqb c 40 || eqb c 41 || eqb c 42 || eqb c 43 || eqb c 44 || eqb c 61 || eqb c 58 || eqb c 64
@@ -50,11 +53,11 @@ plainByte c =
 abbrev pub ruleByte : ℕ → Bool
 ruleByte c = plainByte c && not (upper c)
 
--- a byte of a query: visible, but no #
+-- a byte of a query: visible, but no #. RFC 3986, 3.4: query = *( pchar / "/" / "?" ). Wider, since a query is kept as it is and no rule looks at it
 abbrev pub queryByte : ℕ → Bool
 queryByte c = visible c && not (eqb c 35)
 
--- CR or LF
+-- CR or LF. RFC 9112, 2.2 lets a reader take a lone LF for the end of a line; nothing here does
 abbrev pub lineEnd : ℕ → Bool
 lineEnd c = eqb c 13 || eqb c 10
 

@@ -14,7 +14,8 @@ abbrev pub radix : Base → ℕ
 radix Decimal = 10
 radix Hexadecimal = 16
 
--- how many digits a numeral may have where it is read
+-- how many digits a numeral may have where it is read. RFC 9110, 8.6: Content-Length = 1*DIGIT; RFC 9112, 7.1: chunk-size = 1*HEXDIG. Stricter: as
+-- many as the largest body has, so that no sum can overflow anywhere
 abbrev pub mostDigits : Base → ℕ
 mostDigits Decimal = 6
 mostDigits Hexadecimal = 5
