@@ -2,7 +2,7 @@
 // and one event are held at a time, in buffers that are used again, so that memory does not grow with the script.
 use script::problem::Problem;
 use script::problem::ProblemDisplay;
-use script::reader::Reader;
+use script::progress::Script;
 use script::statement::Statement;
 use std::alloc::Global;
 use std::fmt;
@@ -36,18 +36,18 @@ impl From<io::Error> for Stop as StopFromIo {
 // One line of the script, without its end. `bytes` is left with what an event sends.
 fn play(
     heap: Global,
-    reader: &mut Reader,
+    script: &mut Script,
     line: &[u8],
     bytes: &mut Vec<u8>,
 ) -> Result<(), Problem> {
-    match reader.read_line(heap, line)? {
+    match script.read_line(heap, line)? {
         Statement::Event(event) => event.payload.decode(bytes),
         _ => Ok(()),
     }
 }
 
 fn run(rt: &LibcRuntime) -> Result<(), Stop> {
-    let mut reader = Reader::new(rt.alloc());
+    let mut script = Script::new(rt.alloc());
     let mut input = BufReader::new(rt.stdin());
     let mut line = Vec::new(rt.alloc());
     let mut bytes = Vec::new(rt.alloc());
@@ -59,7 +59,7 @@ fn run(rt: &LibcRuntime) -> Result<(), Stop> {
         if line.last() == Some(&b'\n') {
             let _ = line.pop();
         }
-        if let Err(problem) = play(rt.alloc(), &mut reader, &line, &mut bytes) {
+        if let Err(problem) = play(rt.alloc(), &mut script, &line, &mut bytes) {
             return Err(Stop::Line(number, problem));
         }
     }

@@ -11,9 +11,9 @@ use Rattle.script.specs.Settings.{ServerText, withServer, withRule, serversIn}
 use Rattle.script.specs.Statements.{Says, nothing, server, rule, event, statementOf, andThen}
 use Rattle.script.specs.declared.problem.Problem.{Problem}
 use Rattle.script.specs.declared.problem.Problem.the-variants as problem
-use Rattle.script.specs.declared.reader.Phase.{Phase}
-use Rattle.script.specs.declared.reader.Phase.the-variants as phase
-use Rattle.script.specs.declared.reader.Reader.{Reader}
+use Rattle.script.specs.declared.progress.Phase.{Phase}
+use Rattle.script.specs.declared.progress.Phase.the-variants as phase
+use Rattle.script.specs.declared.progress.Script.{Script}
 use Rattle.script.specs.declared.statement.Sender.{Sender}
 use Rattle.script.specs.declared.statement.Sender.the-variants as sender
 
@@ -51,7 +51,7 @@ copied (server n) = true
 copied (rule r) = true
 copied (event from bytes) = false
 
-abbrev pub scriptIn : Reader → ScriptText
+abbrev pub scriptIn : Script → ScriptText
 scriptIn s = record { servers = serversIn (s .settings); phase = s .phase }
 
 -- before the first line

@@ -3,8 +3,8 @@ use script::problem::Problem;
 use script::problem::ProblemDebug;
 use script::problem::ProblemFromAlloc;
 use script::problem::ProblemPartialEq;
+use script::progress::Script;
 use script::read::read_statement;
-use script::reader::Reader;
 use script::statement::Statement;
 use std::alloc::AllocError;
 use std::alloc::Global;
@@ -32,10 +32,10 @@ fn problem_in_long(
 }
 
 fn read_lines(heap: Global, a: &[u8], b: &[u8], c: &[u8]) -> Result<(), Problem> {
-    let mut reader = Reader::new(heap);
-    let _ = reader.read_line(heap, a)?;
-    let _ = reader.read_line(heap, b)?;
-    let _ = reader.read_line(heap, c)?;
+    let mut script = Script::new(heap);
+    let _ = script.read_line(heap, a)?;
+    let _ = script.read_line(heap, b)?;
+    let _ = script.read_line(heap, c)?;
     Ok(())
 }
 

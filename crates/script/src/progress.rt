@@ -24,17 +24,17 @@ pub enum Phase {
 }
 
 #[derive(Drop)]
-pub struct Reader {
+pub struct Script {
     settings: Settings,
     phase: Phase,
 }
 
-impl Reader {
+impl Script {
     // Before the first line.
-    pub fn new(heap: Global) -> Reader
+    pub fn new(heap: Global) -> Script
         ensures { λ r. ⌜ scriptIn r ≡ unread ⌝ }
     {
-        Reader {
+        Script {
             settings: Settings::new(heap),
             phase: Phase::Settings,
         }
