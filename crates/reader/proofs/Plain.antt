@@ -10,11 +10,10 @@ use native.Mathlib.Omega.{arith}
 use Rattle.std.proofs.shelf.Ways.{tells}
 use Rattle.std.proofs.shelf.Elements.{all-push}
 use Rattle.std.proofs.shelf.Lists.{length-append}
-use Rattle.text.specs.Bytes.{Text, all, clean, nonempty, upper, visible, digit}
+use Rattle.text.specs.Bytes.{Text, all, clean, nonempty, upper, visible, digit, valueByte}
 use Rattle.message.specs.Fields.{Field, canonicalField, canonicalFields, canonicalValue, valueTail, lowerNameByte, fieldLines, linesOf}
 use Rattle.request.specs.Canonical.{Req, canonical, carriesBody, headLimit, fieldLimit, bodyLimit, canonicalMethod, canonicalTarget, oneHost, fieldsInLimits, sentFields, lengthField, headLines, firstLine, version}
 use Rattle.text.specs.Numerals.{decimal}
-use Rattle.reader.specs.Strict.{valueByte}
 use Rattle.reader.proofs.Heads.{Lines}
 use Rattle.text.proofs.Passing.{and-i, and-l, and-r, notEnd, all-weaker, all-append, clean-by, so}
 use Rattle.reader.proofs.Numbers.{decimal-digits}

@@ -14,16 +14,16 @@ use Rattle.std.proofs.shelf.Lists.{append-nil, take-all}
 use Rattle.std.proofs.shelf.Sums.{ending-take-no}
 use Rattle.std.proofs.shelf.Tests.{cond-true, cond-false, eq-eqb, or-parts}
 use Rattle.std.proofs.shelf.Ways.{tells}
-use Rattle.text.specs.Bytes.{Text, all, same, among, clean, nonempty, upper, visible, blank, nameByte, lowered}
+use Rattle.text.specs.Bytes.{Text, all, same, among, clean, nonempty, upper, visible, blank, nameByte, valueByte, lowered}
 use Rattle.text.specs.Trims.{trimmed, trimmedFront, trimmedBack}
 use Rattle.message.specs.Fields.{Field, canonicalField, canonicalFields, canonicalValue, valueTail, lowerNameByte, lineOf, fieldLines, dropped, contentLength, transferEncoding}
 use Rattle.request.specs.Canonical.{canonicalMethod, beginsWithSlash, canonicalTarget, lengthField, firstLine, version}
 use Rattle.reader.specs.Reader.{Cut, Short, Line, Many, One}
-use Rattle.reader.specs.Strict.{before, splitLine, askOf, askFrom, readAsk, valueByte, fieldOf, readFields, valuesOf, exactly, readSize}
+use Rattle.reader.specs.Strict.{before, splitLine, askOf, askFrom, readAsk, fieldOf, readFields, valuesOf, exactly, readSize}
 use Rattle.reader.specs.Laws.{StrictIsFair}
 use Rattle.text.proofs.Passing.{is-true, is-false, and-l, and-r, notEnd, so, differs, all-weaker}
-use Rattle.std.specs.Options.{mapped}
 use Rattle.text.specs.Marks.{cutAt}
+use Rattle.text.proofs.Marking.{cut-at}
 use Rattle.text.specs.declared.numeral.Base.the-variants.{Decimal}
 use Rattle.text_laws.proofs.Digits.{read-back}
 use Rattle.reader.proofs.Plain.{Plain, canonical-plain, length-plain, value-bytes}
@@ -40,13 +40,6 @@ unfolding all
 split-past found more s e [] h = e
 split-past found more s e (c ∷ l) h =
     split-step c (l ++ s) (and-l (notEnd c) (clean l) h) ∙ ap (before c) (split-past found more s e l (and-r (notEnd c) (clean l) h)) ∙ more c l
-
--- a text without the byte b, then b: the text is what stands before the cut
-cut-at : (b : ℕ) (p : ℕ → Bool) → p b ≡ false → (t s : Text) → T (all p t) → cutAt b (t ++ (b ∷ s)) ≡ Some (t, s)
-unfolding all cutAt
-cut-at b p e [] s h = cond-true (eqb b b) _ _ (eq-eqb b b refl)
-cut-at b p e (c ∷ t) s h =
-    cond-false (eqb c b) _ _ (differs p b c e (and-l (p c) (all p t) h)) ∙ ap (mapped (λ q. (c ∷ q .0, q .1))) (cut-at b p e t s (and-r (p c) (all p t) h))
 
 -- a target that begins with a slash has some bytes
 slash-some : (t : Text) → T (beginsWithSlash t) → T (nonempty t)

@@ -1,11 +1,11 @@
 -- The common strict reader: what a server does that forgives nothing. It shows that fair readers exist.
-use mathlib.Core.Bool.{Bool, false, cond, _&&_, _||_}
+use mathlib.Core.Bool.{Bool, false, cond, _&&_}
 use mathlib.Core.List.{List, [], _∷_}
 use Prim.Native.Nat.{ℕ}
 use lib.Dec.{eqb}
 use Rattle.std.specs.declared.option.Option.{Option}
 use Rattle.std.specs.declared.option.Option.the-variants.{Some, None}
-use Rattle.text.specs.Bytes.{Text, upper, visible, blank, nameByte, all, same, lowered, nonempty}
+use Rattle.text.specs.Bytes.{Text, upper, visible, nameByte, valueByte, all, same, lowered, nonempty}
 use Rattle.text.specs.Marks.{cutAt}
 use Rattle.text.specs.Trims.{trimmed}
 use Rattle.text.specs.Numerals.{numberOf}
@@ -38,10 +38,6 @@ askOf (Some (m, rest)) = askFrom m (cutAt 32 rest)
 -- a first line: method, space, target, space, version
 abbrev pub readAsk : Text → Ask
 readAsk l = askOf (cutAt 32 l)
-
--- a byte of a field's value: visible, space or tab
-abbrev pub valueByte : ℕ → Bool
-valueByte c = visible c || blank c
 
 -- a field's line: name, colon, value; the name in lower case, the value without the spaces and tabs at its ends
 abbrev pub fieldOf : Option (Text × Text) → Option Field

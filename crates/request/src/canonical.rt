@@ -3,7 +3,8 @@
 ghost use mathlib.Core.Path.{_≡_};
 ghost use lib.ListN.{length};
 ghost use Rattle.text.specs.Bytes.{Wrote, capped};
-ghost use Rattle.request.specs.Canonical.{carriesBody, write};
+ghost use Rattle.message.specs.Views.{viewField};
+ghost use Rattle.request.specs.Canonical.{carriesBody, lengthField, write};
 ghost use Rattle.request.specs.Writing.{viewRequest, firstBytes, lengthBytes, Written};
 use message::field::Field;
 use message::field::fields_len;
@@ -35,6 +36,17 @@ pub fn carries_body(method: &[u8]) -> bool
 }
 
 impl Request<'_, '_> {
+    // The field that says how long the body is, with its digits in the caller's bytes.
+    fn length_field<'d>(&self, digits: &'d mut [u8; 20]) -> Field<'d>
+        ensures { λ r. ⌜ viewField r ≡ lengthField (viewRequest (now (self .entry)) .body) ⌝ }
+    {
+        let value = write_number(digits, self.body.len(), Base::Decimal);
+        Field {
+            name: b"content-length",
+            value,
+        }
+    }
+
     fn length_len(&self) -> usize
         ensures { λ r. ⌜ r ≡ capped (length (lengthBytes (viewRequest (now (self .entry))))) ⌝ }
     {
@@ -42,11 +54,7 @@ impl Request<'_, '_> {
             return 0;
         }
         let mut digits = [0u8; 20];
-        let value = write_number(&mut digits, self.body.len(), Base::Decimal);
-        Field {
-            name: b"content-length",
-            value,
-        }.line_len()
+        self.length_field(&mut digits).line_len()
     }
 
     // How many bytes it has on the wire.
@@ -79,11 +87,7 @@ impl Request<'_, '_> {
             return 0;
         }
         let mut digits = [0u8; 20];
-        let value = write_number(&mut digits, self.body.len(), Base::Decimal);
-        Field {
-            name: b"content-length",
-            value,
-        }.put_line(out)
+        self.length_field(&mut digits).put_line(out)
     }
 
     // Writes it to the front of `out`, whole, and says how many bytes that took.

@@ -29,7 +29,7 @@ use Rattle.std.specs.Results.{Cases}
 use Rattle.script.specs.declared.statement.Statement.{Statement}
 use Rattle.script_laws.specs.Grammar.{MethodsWord, PathWord, BytesWord, verdictWord, LineSays, empty, comment, a-server, a-rule, from-client, from-server, ReadIffSays}
 use Rattle.script_laws.proofs.Given.{made-then, on-cut, on-number}
-use Rattle.script_laws.proofs.Words.{on-rest, cut-joins, cut-at}
+use Rattle.script_laws.proofs.Words.{on-rest, cut-joins, cut-before}
 use Rattle.script_laws.proofs.Rules.{methods-made, methods-read, methods-close, parts-made, parts-read}
 use Rattle.script_laws.proofs.Numbers.{Number, number-made, number-read}
 use Rattle.script_laws.proofs.Spellings.{bytes-made, bytes-read}
@@ -46,7 +46,7 @@ rule-made v t =
     (cut-joins 32 t)
 
 rule-read : (v : Verdict) (ms ps : List Text) (a b : Text) → MethodsWord ms a → PathWord ps b → ruleOf v (a ++ (32 ∷ b)) ≡ Ok (rule (record { verdict = v; methods = ms; parts = ps }))
-rule-read v ms ps a b m p = rw (cut-at 32 a b (methods-close ms a m), methods-read ms a m, parts-read ps b p)
+rule-read v ms ps a b m p = rw (cut-before 32 a b (methods-close ms a m), methods-read ms a m, parts-read ps b p)
 
 -- what is read of an event whose sender may be 1 to most
 abbrev eventFrom : ℕ → (ℕ → Sender) → Problem → Text → Result Says Problem
@@ -62,7 +62,7 @@ module _ (most : ℕ) (from : ℕ → Sender) (fault : Problem) (few : most ≤ 
       (cut-joins 32 t)
 
   event-read : (n : ℕ) (bs u : Text) → 1 ≤ n → n ≤ most → BytesWord bs u → eventFrom most from fault (decimal n ++ (32 ∷ u)) ≡ Ok (event (from n) bs)
-  event-read n bs u low high h = let r = number-read most n few low high in rw (cut-at 32 (decimal n) u (r .1), r .0, bytes-read bs u h)
+  event-read n bs u low high h = let r = number-read most n few low high in rw (cut-before 32 (decimal n) u (r .1), r .0, bytes-read bs u h)
 
 line-made : (t : Text) → made (statementOf t) (LineSays t)
 line-made [] = empty

@@ -12,6 +12,7 @@ use Rattle.std.proofs.shelf.Ways.{tells}
 use Rattle.text.specs.Bytes.{Text, all}
 use Rattle.text.specs.Numerals.{digitByte, digits, numeral, decimal, digitValue}
 use Rattle.text.specs.declared.numeral.Base.the-variants.{Decimal}
+use Rattle.text_laws.proofs.Digits.{byte-value}
 use Rattle.script.specs.Statements.{ranged, numberIn}
 use Rattle.script_laws.proofs.Given.{Gives, on-digit}
 use Rattle.script_laws.proofs.Words.{other}
@@ -19,9 +20,6 @@ use Rattle.script_laws.proofs.Words.{other}
 -- a digit and what it is worth
 digit-made : (c d : ℕ) → digitValue Decimal c ≡ Some d → (d < 10) × (c ≡ digitByte d)
 digit-made c d e = (grind (arith, tells), grind (arith, tells))
-
-digit-read : (d : ℕ) → d < 10 → digitValue Decimal (digitByte d) ≡ Some d
-digit-read d h = grind (arith, tells)
 
 no-space : (d : ℕ) → eqb (digitByte d) 32 ≡ false
 no-space d = grind (arith, tells)
@@ -75,11 +73,11 @@ from-range least most n low high = cond-true (leb least n && leb n most) (Some n
 pub number-read : (most n : ℕ) → most ≤ 16 → 1 ≤ n → n ≤ most → (numberIn most (decimal n) ≡ Some n) × T (all (other 32) (decimal n))
 unfolding all
 number-read most n few low high =
-    ⊎-elim (λ h. rw (decimal-one n h) (rw (digit-read n h) (from-range 1 most n low high), rw (no-space n) tt))
+    ⊎-elim (λ h. rw (decimal-one n h) (rw (byte-value Decimal n h) (from-range 1 most n low high), rw (no-space n) tt))
     (λ h.
     let less : n < 100 = omega arith in
     let d : n / 10 < 10 = omega arith in
     let e : n % 10 < 10 = omega arith in
     let sum : n / 10 * 10 + n % 10 ≡ n = omega arith in
-    rw (decimal-two n h less) (rw (digit-read (n / 10) d, digit-read (n % 10) e, sum) (from-range 10 most n h high), rw (no-space (n / 10), no-space (n % 10)) tt))
+    rw (decimal-two n h less) (rw (byte-value Decimal (n / 10) d, byte-value Decimal (n % 10) e, sum) (from-range 10 most n h high), rw (no-space (n / 10), no-space (n % 10)) tt))
     (cases-lt n 10)

@@ -21,7 +21,7 @@ use Rattle.script.specs.Series.{wordOf, wrongOf, judged, onRest}
 use Rattle.script.specs.declared.problem.Problem.{Problem}
 use Rattle.script.specs.declared.series.Series.{Series}
 use Rattle.script.specs.declared.word.Word.{Word}
-use Rattle.text.proofs.Marking.{split-cut, pieced}
+use Rattle.text.proofs.Marking.{split-cut, pieced, cut-at}
 use Rattle.script_laws.specs.Grammar.{joinedBy}
 use Rattle.script_laws.proofs.Given.{Gives, gives-mapped}
 
@@ -44,10 +44,8 @@ cut-joins m (c ∷ cs) =
 abbrev pub other : ℕ → ℕ → Bool
 other m c = not (eqb c m)
 
-pub cut-at : (m : ℕ) (a b : Text) → T (all (other m) a) → cutAt m (a ++ (m ∷ b)) ≡ Some (a, b)
-unfolding all cutAt
-cut-at m [] b h = rw (eq-eqb m m refl)
-cut-at m (c ∷ a) b h = rw (is-false (eqb c m) (and-l (other m c) (all (other m) a) h), cut-at m a b (and-r (other m c) (all (other m) a) h))
+pub cut-before : (m : ℕ) (a b : Text) → T (all (other m) a) → cutAt m (a ++ (m ∷ b)) ≡ Some (a, b)
+cut-before m a b h = cut-at m (other m) (ap not (eq-eqb m m refl)) a b h
 
 cut-none : (m : ℕ) (a : Text) → T (all (other m) a) → cutAt m a ≡ None
 unfolding all cutAt
@@ -86,7 +84,7 @@ split-joined m [] h some = absurd (omega arith)
 split-joined m (t ∷ []) h some = split-cut m t ∙ ap (pieced m t) (cut-none m t (h .0))
 split-joined m (t ∷ u ∷ ts) h some =
     let rest = joinedBy m (u ∷ ts) in
-    split-cut m (t ++ (m ∷ rest)) ∙ ap (pieced m (t ++ (m ∷ rest))) (cut-at m t rest (h .0)) ∙ ap (λ us. t ∷ us) (split-joined m (u ∷ ts) (h .1) (omega arith))
+    split-cut m (t ++ (m ∷ rest)) ∙ ap (pieced m (t ++ (m ∷ rest))) (cut-before m t rest (h .0)) ∙ ap (λ us. t ∷ us) (split-joined m (u ∷ ts) (h .1) (omega arith))
 
 pub all-joined : (p : ℕ → Bool) (m : ℕ) (ts : List Text) → T (p m) → All (λ t. T (all p t)) ts → T (all p (joinedBy m ts))
 unfolding all joinedBy

@@ -3,14 +3,15 @@ use mathlib.Core.Bool.{Bool, true, false, cond}
 use mathlib.Core.List.{List, [], _∷_, _++_, append-assoc}
 use mathlib.Core.Path.{_≡_, refl, sym, ap, _∙_}
 use Prim.Native.Nat.{ℕ, _+_, _-_, _≤_, _<_}
-use lib.Dec.{eqb}
+use lib.Dec.{T, eqb}
 use lib.ListN.{length, take, drop, getD}
 use Rattle.std.specs.declared.option.Option.{Option}
 use Rattle.std.specs.declared.option.Option.the-variants.{Some, None}
 use Rattle.std.specs.Options.{mapped}
 use Rattle.std.proofs.shelf.Lists.{append-nil, take-more, drop-more, drop-all}
 use Rattle.std.proofs.shelf.Tests.{eq-eqb, ne-eqb, cond-true, cond-false}
-use Rattle.text.specs.Bytes.{Text}
+use Rattle.text.specs.Bytes.{Text, all}
+use Rattle.text.proofs.Passing.{and-l, and-r, differs}
 use Rattle.text.specs.Marks.{restAfter, cutAt, split, onFirst}
 
 pub after-short : (ws cs : Text) (i : ℕ) → i < length ws → length cs ≤ i → restAfter (drop i ws) (drop i cs) ≡ None
@@ -52,6 +53,12 @@ cut-later m cs i h e =
 pub cut-nowhere : (m : ℕ) (cs t : Text) (i : ℕ) → length cs ≤ i → behind t (cutAt m (drop i cs)) ≡ None
 unfolding cutAt
 cut-nowhere m cs t i h = ap (λ ys. behind t (cutAt m ys)) (drop-all i cs h)
+
+-- a text of bytes that pass a test which the mark fails, and then the mark: the text is what stands before it
+pub cut-at : (m : ℕ) (p : ℕ → Bool) → p m ≡ false → (t s : Text) → T (all p t) → cutAt m (t ++ (m ∷ s)) ≡ Some (t, s)
+unfolding all cutAt
+cut-at m p e [] s h = cond-true (eqb m m) _ _ (eq-eqb m m refl)
+cut-at m p e (c ∷ t) s h = cond-false (eqb c m) _ _ (differs p m c e (and-l (p c) (all p t) h)) ∙ ap (mapped (λ q. (c ∷ q .0, q .1))) (cut-at m p e t s (and-r (p c) (all p t) h))
 
 -- the pieces of a text that a cut takes apart, or leaves whole
 abbrev pub pieced : ℕ → Text → Option (Text × Text) → List Text

@@ -43,6 +43,10 @@ visible c = between 33 126 c
 abbrev pub blank : ℕ → Bool
 blank c = eqb c 32 || eqb c 9
 
+-- a byte of a field's value as sent
+abbrev pub valueByte : ℕ → Bool
+valueByte c = visible c || blank c
+
 -- a byte that stands for itself in a path: letters, digits and - _ ~ . ! $ & ' ( ) * + , = : @. RFC 3986, 3.3: pchar = unreserved / pct-encoded /
 -- sub-delims / ":" / "@". Stricter: no ";", at which some servers cut a part
 abbrev pub plainByte : ℕ → Bool

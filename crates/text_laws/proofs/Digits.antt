@@ -24,7 +24,7 @@ two Decimal = omega arith
 two Hexadecimal = omega arith
 
 -- a digit is written as a byte that is worth it
-byte-value : (base : Base) (d : ℕ) → d < radix base → digitValue base (digitByte d) ≡ Some d
+pub byte-value : (base : Base) (d : ℕ) → d < radix base → digitValue base (digitByte d) ≡ Some d
 byte-value Decimal d h = grind (arith, tells)
 byte-value Hexadecimal d h = grind (arith, tells)
 

@@ -1,8 +1,7 @@
-use mathlib.Core.Path.{_≡_, sym, ap, _∙_}
+use mathlib.Core.Path.{sym, ap, _∙_}
 use lib.ListN.{length}
 use Rattle.std.proofs.shelf.Tests.{cond-true, cond-false}
 use Rattle.text.specs.Bytes.{capped}
-use Rattle.message.specs.Fields.{contentLength}
 use Rattle.message.specs.Views.{fieldLine}
 use Rattle.request.proofs.canonical.Request.length_len.Needs as need
 
@@ -11,5 +10,4 @@ returns-then-not-carries-body c = ap (λ t. capped (length t)) (sym (cond-false 
 
 pub returns : need.returns
 returns c =
-    c .line-len .ensures ∙ ap (λ v. capped (length (fieldLine record { name = contentLength; value = v }))) (c .write-number-value .ensures)
-    ∙ ap (λ t. capped (length t)) (sym (cond-true _ _ _ (sym (c .if-not-carries-body .ensures tt))))
+    c .line-len .ensures ∙ ap (λ f. capped (length (fieldLine f))) (c .length-field .ensures) ∙ ap (λ t. capped (length t)) (sym (cond-true _ _ _ (sym (c .if-not-carries-body .ensures tt))))
