@@ -1,5 +1,5 @@
 -- How a line is cut off the front of a text: at its first CR or LF.
-use Rattle.std.specs.Prelude.{◌≡◌, ℕ, ◌+◌, ◌<◌, Bool, cond, not, List, length, take, drop, ◌==◌, nat_le, slice_index}
+use Rattle.std.specs.Prelude.{◌≡◌, ℕ, ◌+◌, ◌<◌, cond, not, length, take, drop, ◌==◌, nat_le, slice_index}
 use Rattle.std.specs.List.{prefix_len}
 use Rattle.text.specs.Bytes.{Text, line_end}
 use Rattle.text.specs.declared.line.Cut.{Cut}

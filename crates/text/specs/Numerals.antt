@@ -1,5 +1,5 @@
 -- Numbers as digits, in base ten and sixteen.
-use Rattle.std.specs.Prelude.{ℕ, zero, suc, ◌+◌, ◌-◌, ◌*◌, ◌/◌, ◌%◌, Bool, cond, ◌&&◌, List, [], ◌∷◌, ◌++◌, length, Some, None, Option, nat_le, nat_lt}
+use Rattle.std.specs.Prelude.{ℕ, zero, suc, ◌+◌, ◌-◌, ◌*◌, ◌/◌, ◌%◌, cond, ◌&&◌, [], ◌∷◌, ◌++◌, length, Some, None, Option, nat_le, nat_lt}
 use Rattle.text.specs.Bytes.{Text, between, nonempty}
 use Rattle.text.specs.declared.numeral.Base.{Base}
 use Rattle.text.specs.declared.numeral.Base.TheVariants.{Decimal, Hexadecimal}

@@ -1,13 +1,13 @@
 -- Values without the spaces and tabs at their ends, and with one space for each run of them inside.
-use Rattle.std.specs.Prelude.{ℕ, ◌-◌, Bool, false, cond, List, [], ◌∷◌, length, take, drop, Some, None, Option}
+use Rattle.std.specs.Prelude.{ℕ, ◌-◌, Bool, false, cond, [], ◌∷◌, length, take, drop, Some, None, Option}
 use Rattle.std.specs.List.{prefix_len, suffix_len}
 use Rattle.text.specs.Bytes.{Text, blank}
 
--- without the spaces and tabs in front: `leading p xs` counts the first elements that pass
+-- without the spaces and tabs in front: `prefix_len p xs` counts the first elements that pass
 abbrev pub trimmed_front : Text → Text
 trimmed_front t = drop (prefix_len blank t) t
 
--- without the spaces and tabs at the end: `ending p xs` counts the last elements that pass
+-- without the spaces and tabs at the end: `suffix_len p xs` counts the last elements that pass
 abbrev pub trimmed_back : Text → Text
 trimmed_back t = take (length t - suffix_len blank t) t
 

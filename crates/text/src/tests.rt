@@ -22,11 +22,15 @@ fn numerals_at_their_limits(rt: HostRuntime) {
 #[test]
 fn numbers_without_a_needless_zero(rt: HostRuntime) {
     let mut buf = [0u8; 20];
-    assert!(rt; write_number(&mut buf, 0, Base::Decimal) == b"0");
-    assert!(rt; write_number(&mut buf, 262143, Base::Decimal) == b"262143");
-    assert!(rt; write_number(&mut buf, usize::MAX, Base::Decimal) == b"18446744073709551615");
-    assert!(rt; write_number(&mut buf, 16384, Base::Hexadecimal) == b"4000");
-    assert!(rt; write_number(&mut buf, usize::MAX, Base::Hexadecimal) == b"ffffffffffffffff");
+    assert!(rt; write_number(&mut buf, 0, Base::Decimal) == b"0".as_slice());
+    assert!(rt; write_number(&mut buf, 262143, Base::Decimal) == b"262143".as_slice());
+    assert!(rt;
+        write_number(&mut buf, usize::MAX, Base::Decimal) == b"18446744073709551615".as_slice()
+    );
+    assert!(rt; write_number(&mut buf, 16384, Base::Hexadecimal) == b"4000".as_slice());
+    assert!(rt;
+        write_number(&mut buf, usize::MAX, Base::Hexadecimal) == b"ffffffffffffffff".as_slice()
+    );
 }
 
 // What a cut finds: 'l' and the line's length, 's' for short, '!' and the place of a stray byte.
@@ -52,13 +56,13 @@ fn lines_end_with_both(rt: HostRuntime) {
 
 #[test]
 fn values_trimmed_and_squeezed(rt: HostRuntime) {
-    assert!(rt; trim(b"") == b"");
-    assert!(rt; trim(b" \t \t") == b"");
-    assert!(rt; trim(b"\t a\t b ") == b"a\t b");
+    assert!(rt; trim(b"") == b"".as_slice());
+    assert!(rt; trim(b" \t \t") == b"".as_slice());
+    assert!(rt; trim(b"\t a\t b ") == b"a\t b".as_slice());
     let mut value = *b"a \t b\tc";
     assert_eq!(rt; squeeze(&mut value), 5);
-    assert!(rt; &value[0..5] == b"a b c");
-    assert!(rt; &value[5..] == b"\tc");
+    assert!(rt; &value[0..5] == b"a b c".as_slice());
+    assert!(rt; &value[5..] == b"\tc".as_slice());
 }
 
 #[test]

@@ -1,4 +1,4 @@
-use Rattle.std.proofs.Common.{◌≡◌, ℕ, ◌+◌, ◌-◌, ◌<◌, ◌≤◌, List, length, get_or, take, drop, ap, ◌∙◌, arith}
+use Rattle.std.proofs.Common.{◌≡◌, ℕ, ◌+◌, ◌-◌, ◌<◌, List, length, get_or, take, drop, ap, ◌∙◌, arith}
 use native.Mathlib.Nat.{sub-zero}
 use Rattle.std.proofs.lemmas.List.{take_rest, length-take, length-drop}
 use Rattle.std.proofs.lemmas.Bool.{lt-leb, eq-eqb, ne_eqb}
@@ -18,6 +18,6 @@ a_line n xs e h f g =
 pub returns : goal.returns
 returns c =
     record {
-      is = a_line c.before-end-n.result c.args.s.now c.before-end-n.ensures.is c.if-n-s-2.false c.if-s-n-eq10.false c.if-s-n-ne10.false;
+      is = a_line c.before_end-n.result c.args.s.now c.before_end-n.ensures.is c.if-n-s-2.false c.if-s-n-eq10.false c.if-s-n-ne10.false;
       long = simp (length-take, length-drop) (omega arith);
     }

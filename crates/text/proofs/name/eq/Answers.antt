@@ -1,12 +1,14 @@
-use Rattle.std.proofs.Common.{rules}
-use Rattle.std.proofs.lemmas.Slice.Eq.{IsBytesEq, compares_Decides, slice_eq-Decides}
-use Rattle.std.proofs.lemmas.Bool.Decides.{same_from_decides}
-use Rattle.text.specs.Bytes.{same}
+use Rattle.std.proofs.Common.{◌≡◌, ◌==◌, ◌&&◌, [], ◌∷◌, refl, ap, ◌∙◌}
+use lib.Pointwise.{pointwise}
+use Rattle.text.specs.Bytes.{Text, same}
 use Rattle.text.proofs.name.eq.Goals as goal
 
-head_by_head : IsBytesEq same
+head_by_head : (s t : Text) → pointwise (λ c d. c == d) s t ≡ same s t
 unfolding same
-head_by_head = search rules
+head_by_head [] [] = refl
+head_by_head [] (d ∷ ds) = refl
+head_by_head (c ∷ cs) [] = refl
+head_by_head (c ∷ cs) (d ∷ ds) = ap (λ b. (c == d) && b) (head_by_head cs ds)
 
 pub returns : goal.returns
-returns c = same_from_decides _ _ (slice_eq-Decides _ _ _ c.eq.ensures) (compares_Decides same head_by_head c.args.a.now c.args.b.now)
+returns c = c.eq.ensures ∙ head_by_head c.args.a.now c.args.b.now

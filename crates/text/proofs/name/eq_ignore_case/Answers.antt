@@ -22,12 +22,12 @@ ended a b i h k = rw (drop_all i a h, drop_all i b k)
 pub returns-then-a-b : goal.returns-then-a-b
 returns-then-a-b c = sym (apart _ _ c.if-a-b.true)
 
-pub returns-then-lower-byte : goal.returns-then-lower-byte
-returns-then-lower-byte c =
+pub returns-then-lower_byte : goal.returns-then-lower_byte
+returns-then-lower_byte c =
     let a = c.args.a.now in
     let b = c.args.b.now in
     let i = c.loop-i.i in
-    let t = ne_eqb (lower (get_or a i 0)) (lower (get_or b i 0)) (λ e. c.if-lower-byte.true (c.lower-byte.ensures ∙ e ∙ sym c.lower-byte-in-loop-i.ensures)) in
+    let t = ne_eqb (lower (get_or a i 0)) (lower (get_or b i 0)) (λ e. c.if-lower_byte.true (c.lower_byte.ensures ∙ e ∙ sym c.lower_byte-in-loop-i.ensures)) in
     sym (sym c.loop-i.invariant.1 ∙ one a b i (omega arith) (omega arith) ∙ ap (λ v. v && same_no_case (drop (i + 1) a) (drop (i + 1) b)) t)
 
 pub loop-i-preserved : goal.loop-i-preserved
@@ -35,7 +35,7 @@ loop-i-preserved c =
     let a = c.args.a.now in
     let b = c.args.b.now in
     let i = c.loop-i.i in
-    let t = eq-eqb (lower (get_or a i 0)) (lower (get_or b i 0)) (sym c.lower-byte.ensures ∙ c.if-lower-byte.false ∙ c.lower-byte-in-loop-i.ensures) in
+    let t = eq-eqb (lower (get_or a i 0)) (lower (get_or b i 0)) (sym c.lower_byte.ensures ∙ c.if-lower_byte.false ∙ c.lower_byte-in-loop-i.ensures) in
     (c.loop-i.invariant.0, sym (one a b i (omega arith) (omega arith) ∙ ap (λ v. v && same_no_case (drop (i + 1) a) (drop (i + 1) b)) t) ∙ c.loop-i.invariant.1)
 
 pub returns : goal.returns

@@ -14,8 +14,8 @@ loop-i-preserved c =
     let i = c.loop-i.i in
     let there : i < length name = omega arith in
     let room : i < length c.args.out.now = omega arith in
-    let one = lowered_more name i there ∙ ap (λ x. x ∷ lowered (drop (i + 1) name)) (sym c.lower-byte.ensures) in
-    writing_more c.lower-byte.result room (writing_as one c.loop-i.invariant)
+    let one = lowered_more name i there ∙ ap (λ x. x ∷ lowered (drop (i + 1) name)) (sym c.lower_byte.ensures) in
+    writing_more c.lower_byte.result room (writing_as one c.loop-i.invariant)
 
 pub returns : goal.returns
 returns c =

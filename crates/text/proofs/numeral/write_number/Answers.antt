@@ -48,8 +48,8 @@ loop-rest-preserved c =
     let room : k ≤ length xs = omega (arith, c.loop-rest.invariant.2) in (
       omega arith,
       omega (arith, c.loop-rest.invariant.1),
-      length-set xs (k - 1) c.digit-byte.result ∙ c.loop-rest.invariant.2,
-      step b k n c.digit-byte.result (digit_byte (n % b)) xs (digits b (k - 1) (n / b)) one room (more b k n one c.loop-rest-test.true) c.digit-byte.ensures ∙ c.loop-rest.invariant.3,
+      length-set xs (k - 1) c.digit_byte.result ∙ c.loop-rest.invariant.2,
+      step b k n c.digit_byte.result (digit_byte (n % b)) xs (digits b (k - 1) (n / b)) one room (more b k n one c.loop-rest-test.true) c.digit_byte.ensures ∙ c.loop-rest.invariant.3,
     )
 
 pub returns : goal.returns
@@ -59,9 +59,9 @@ returns c =
     let b = c.radix-radix.result in
     let n = c.loop-rest.rest in
     let xs = c.loop-rest.buf in
-    let d = c.digit-byte-2.result in
+    let d = c.digit_byte-2.result in
     let one : 1 ≤ k = c.loop-rest.invariant.0 in
     let room : k ≤ length xs = omega (arith, c.loop-rest.invariant.1, c.loop-rest.invariant.2) in
     let all : length (drop (k - 1) (set xs (k - 1) d)) ≤ 20 - (k - 1) = simp (length-drop, length-set) (omega (arith, c.loop-rest.invariant.2)) in
     let ended : (n < b) ⊎ (k ≤ 1) = elim c.loop-rest-test.branch [ then-loop-rest-test+else-at-gt1 w ↦ inr w.if-at-gt1.false | else-loop-rest-test w ↦ inl w.loop-rest-test.false ] in
-    take_all (20 - (k - 1)) _ all ∙ step b k n d (digit_byte (n % b)) xs [] one room (first b k n one ended) c.digit-byte-2.ensures ∙ c.loop-rest.invariant.3 ∙ ap (λ m. digits m 20 c.args.n) c.radix-radix.ensures.is
+    take_all (20 - (k - 1)) _ all ∙ step b k n d (digit_byte (n % b)) xs [] one room (first b k n one ended) c.digit_byte-2.ensures ∙ c.loop-rest.invariant.3 ∙ ap (λ m. digits m 20 c.args.n) c.radix-radix.ensures.is

@@ -1,4 +1,4 @@
-use Rattle.std.proofs.Common.{◌≡◌, ◌-◌, ◌++◌, drop, ap, ◌∙◌}
+use Rattle.std.proofs.Common.{◌-◌, ◌++◌, drop, ap, ◌∙◌}
 use Rattle.text.proofs.Places.{wrote_front}
 use Rattle.text.proofs.output.put.Goals as goal
 
@@ -7,6 +7,6 @@ returns c =
     let n = c.min-n.result in
     let out = c.args.out.now in
     record {
-      holds = ap (λ zs. zs ++ drop (n - 0) out) c.copy-from-slice.ensures.after ∙ wrote_front n c.args.bytes.now out c.min-n.ensures;
+      holds = ap (λ zs. zs ++ drop (n - 0) out) c.copy_from_slice.ensures.after ∙ wrote_front n c.args.bytes.now out c.min-n.ensures;
       count = c.min-n.ensures;
     }

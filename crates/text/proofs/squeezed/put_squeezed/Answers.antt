@@ -4,7 +4,7 @@ use Rattle.text.specs.Trims.{before, squeezed, squeezed_after}
 use Rattle.text.proofs.Folding.{squeezed_more, squeezed_all}
 use Rattle.text.proofs.Places.{writing_none, writing_as, writing_more, wrote_whole, wrote_full}
 use Rattle.text.proofs.squeezed.put_squeezed.Goals as goal
-use Rattle.text.proofs.squeezed.put_squeezed.Goals.{in-Some, in-default}
+use Rattle.text.proofs.squeezed.put_squeezed.Goals.{in-Some, in_default}
 
 pub loop-b-init : goal.loop-b-init
 loop-b-init c = writing_none (squeezed c.args.v.now) c.args.out.now
@@ -18,11 +18,11 @@ loop-b-preserved c =
     let i = c.loop-b.b-index in
     let more = squeezed_more c.loop-b.run v i c.loop-b-test.true in
     let rest = squeezed_after (blank (get_or v i 0)) (drop (i + 1) v) in
-    elim c.match-squeezed-byte.branch [
+    elim c.match-squeezed_byte.branch [
       | in-Some w ↦
           let room : c.loop-b.n < length c.args.out.now = omega arith in
-          rw (w.out-is, w.n-is, c.is-blank-run.ensures) (writing_more w.in-Some.x room (writing_as (more ∙ ap (λ o. before o rest) (sym w.in-Some.ensures)) c.loop-b.invariant))
-      | in-default w ↦ rw (w.out-is, w.n-is, c.is-blank-run.ensures) (writing_as (more ∙ ap (λ o. before o rest) (sym w.in-default.ensures)) c.loop-b.invariant)
+          rw (w.out-is, w.n-is, c.is_blank-run.ensures) (writing_more w.in-Some.x room (writing_as (more ∙ ap (λ o. before o rest) (sym w.in-Some.ensures)) c.loop-b.invariant))
+      | in_default w ↦ rw (w.out-is, w.n-is, c.is_blank-run.ensures) (writing_as (more ∙ ap (λ o. before o rest) (sym w.in_default.ensures)) c.loop-b.invariant)
     ]
 
 pub returns : goal.returns

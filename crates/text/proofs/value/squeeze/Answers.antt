@@ -1,10 +1,10 @@
-use Rattle.std.proofs.Common.{◌≡◌, ℕ, ◌+◌, ◌-◌, ◌<◌, ◌≤◌, Bool, List, [], ◌∷◌, ◌++◌, length, get_or, take, drop, set, Some, None, Option, sym, refl, ap, ◌∙◌, append_assoc, arith}
-use Rattle.std.proofs.lemmas.List.{append-nil, length-set, length-take, length-take-le, take-append-drop, take_more_set, drop_more, drop_all, drop-drop, drop-set-lt, get_or-drop}
+use Rattle.std.proofs.Common.{◌≡◌, ℕ, ◌+◌, ◌-◌, ◌<◌, ◌≤◌, Bool, [], ◌∷◌, ◌++◌, length, get_or, take, drop, set, Some, None, sym, ap, ◌∙◌, append_assoc, arith}
+use Rattle.std.proofs.lemmas.List.{append-nil, length-set, length-take-le, take-append-drop, take_more_set, drop_more, drop_all, drop-drop, drop-set-lt, get_or-drop}
 use Rattle.text.specs.Bytes.{Text, blank, placed}
 use Rattle.text.specs.Trims.{before, squeezed, squeezed_byte, squeezed_after}
 use Rattle.text.proofs.Places.{placed_fits}
 use Rattle.text.proofs.value.squeeze.Goals as goal
-use Rattle.text.proofs.value.squeeze.Goals.{in-Some, in-default}
+use Rattle.text.proofs.value.squeeze.Goals.{in-Some, in_default}
 
 So : Text → Text → ℕ → Bool → ℕ → Type 0
 So e v k run i = (k ≤ i) × (length v ≡ length e) × (take k v ++ squeezed_after run (drop i e) ≡ squeezed e) × (drop k v ≡ drop k e)
@@ -64,12 +64,12 @@ loop-i-preserved c =
     let run = c.loop-i.run in
     let h : i < length e = c.loop-i-test.true in
     let read = untouched e v k i c.loop-i.invariant.0 c.loop-i.invariant.3 in
-    let run_is = c.is-blank-run.ensures ∙ ap blank read in
-    elim c.match-squeezed-byte.branch [
+    let run_is = c.is_blank-run.ensures ∙ ap blank read in
+    elim c.match-squeezed_byte.branch [
       | in-Some w ↦
           let x = w.in-Some.x in
           moved e _ (set v k x) _ (k + 1) (i + 1) _ _ w.v-is w.at-is run_is (kept e v k i x run h c.loop-i.invariant (ap (squeezed_byte run) (sym read) ∙ sym w.in-Some.ensures))
-      | in-default w ↦ moved e _ v _ k (i + 1) _ _ w.v-is w.at-is run_is (passed e v k i run h c.loop-i.invariant (ap (squeezed_byte run) (sym read) ∙ sym w.in-default.ensures))
+      | in_default w ↦ moved e _ v _ k (i + 1) _ _ w.v-is w.at-is run_is (passed e v k i run h c.loop-i.invariant (ap (squeezed_byte run) (sym read) ∙ sym w.in_default.ensures))
     ]
 
 pub returns : goal.returns
