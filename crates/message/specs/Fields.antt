@@ -1,5 +1,5 @@
 -- Fields as requests and responses share them: names, values, and the lines that they are written as.
-use Rattle.std.specs.Prelude.{ℕ, Bool, true, false, cond, not, ◌&&◌, ◌||◌, List, [], ◌∷◌, ◌++◌, length, codes, ◌==◌, nat_le}
+use Rattle.std.specs.Prelude.{ℕ, Bool, true, not, ◌&&◌, ◌||◌, List, [], ◌∷◌, ◌++◌, length, codes, ◌==◌, nat_le}
 use Rattle.text.specs.Bytes.{Text, between, digit, visible, all, among, nonempty}
 
 pub record Field : Type 0 where

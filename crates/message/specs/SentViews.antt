@@ -1,5 +1,5 @@
 -- What the code holds of fields as they were sent, as values.
-use Rattle.std.specs.Prelude.{List, [], ◌∷◌, map}
+use Rattle.std.specs.Prelude.{List, map}
 use Rattle.text.specs.Bytes.{lowered}
 use Rattle.text.specs.Trims.{squeezed}
 use Rattle.message.specs.Fields.{Field}

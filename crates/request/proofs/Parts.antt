@@ -1,6 +1,5 @@
 -- A request's bytes are those of its parts, one after the other.
-use Rattle.std.proofs.Common.{◌≡◌, Bool, true, false, cond, List, [], ◌∷◌, ◌++◌, sym, refl, ap, ◌∙◌, append_assoc, append-nil}
-use Rattle.text.specs.Bytes.{Text}
+use Rattle.std.proofs.Common.{◌≡◌, Bool, true, false, cond, List, [], ◌∷◌, ◌++◌, sym, ap, ◌∙◌, append_assoc, append-nil}
 use Rattle.message.specs.Fields.{Field, field_lines, lines_of}
 use Rattle.message.specs.Views.{field_line, field_bytes}
 use Rattle.message.proofs.Lines.{lines_of_append, field_bytes_push}

@@ -1,5 +1,5 @@
 -- What reading a client has found, by the state and the memory.
-use Rattle.std.specs.Prelude.{ℕ, ◌+◌, ◌-◌, Bool, cond, ◌&&◌, List, [], ◌∷◌, map, length, take, drop, Ok, Err, Result, nat_le}
+use Rattle.std.specs.Prelude.{ℕ, ◌+◌, ◌-◌, Bool, cond, ◌&&◌, List, map, length, take, drop, Ok, Err, Result, nat_le}
 use Rattle.text.specs.Bytes.{Text}
 use Rattle.message.specs.Faults.{flaw}
 use Rattle.message.specs.Fields.{Field}

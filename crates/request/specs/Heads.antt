@@ -1,5 +1,5 @@
 -- The head of a request, judged as far as it has come, in the stated order of faults.
-use Rattle.std.specs.Prelude.{◌≡◌, ℕ, ◌+◌, ◌-◌, ◌<◌, ◌≤◌, Bool, true, false, cond, List, [], ◌∷◌, length, take, Some, None, Ok, Err, Option, Result, nat_lt}
+use Rattle.std.specs.Prelude.{ℕ, ◌+◌, ◌-◌, ◌<◌, ◌≤◌, Bool, true, false, cond, List, length, take, Some, None, Ok, Err, Option, Result, nat_lt}
 use Rattle.text.specs.Bytes.{Text}
 use Rattle.text.specs.Cuts.{LineCut, whole, short, stray, cut_line}
 use Rattle.message.specs.Faults.{flaw, onward}
@@ -15,7 +15,6 @@ use Rattle.request.specs.Canonical.{carries_body, body_limit, field_limit}
 use Rattle.request.specs.First.{check_first}
 use Rattle.request.specs.Hosts.{server_of}
 use Rattle.request.specs.declared.first.First.{First}
-use Rattle.request.specs.declared.head.Head.{Head}
 use Rattle.request.specs.declared.head.Due.{Due}
 use Rattle.request.specs.declared.head.Due.TheVariants.{Length, Chunks}
 use Rattle.request.specs.declared.head.Judged.{Judged}

@@ -1,5 +1,5 @@
 -- A client's bytes, read as they come: what a piece does to the small state and to the lent memory.
-use Rattle.std.specs.Prelude.{◌≡◌, ℕ, ◌+◌, ◌-◌, ◌≤◌, Bool, true, false, cond, ◌&&◌, List, [], ◌∷◌, ◌++◌, length, take, drop, Some, None, Ok, Err, Option, Result, ◌==◌, nat_le, nat_lt}
+use Rattle.std.specs.Prelude.{ℕ, ◌+◌, ◌-◌, Bool, true, cond, ◌&&◌, List, ◌++◌, length, take, drop, Some, None, Ok, Err, Option, Result, ◌==◌, nat_le, nat_lt}
 use Rattle.text.specs.Bytes.{Text}
 use Rattle.message.specs.Chunked.{fed_by as chunkFed, held_by as chunkHeld}
 use Rattle.message.specs.Faults.{flaw}

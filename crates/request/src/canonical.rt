@@ -44,7 +44,7 @@ impl Request<'_, '_> {
         }
     }
 
-    fn length_len(&self) -> usize
+    pub(crate) fn length_len(&self) -> usize
         ensures { result ≡ capped (length (length_bytes (view_request self.now))) }
     {
         if !carries_body(self.method) {
@@ -69,7 +69,7 @@ impl Request<'_, '_> {
         head.saturating_add(2).saturating_add(self.body.len())
     }
 
-    fn put_first_line(&self, out: &mut [u8]) -> usize
+    pub(crate) fn put_first_line(&self, out: &mut [u8]) -> usize
         ensures { Wrote (first_bytes (view_request self.now)) out.old out.new result }
     {
         let n = put(out, self.method);
@@ -78,7 +78,7 @@ impl Request<'_, '_> {
         n + put(&mut out[n..], b" HTTP/1.1\r\n")
     }
 
-    fn put_length(&self, out: &mut [u8]) -> usize
+    pub(crate) fn put_length(&self, out: &mut [u8]) -> usize
         ensures { Wrote (length_bytes (view_request self.now)) out.old out.new result }
     {
         if !carries_body(self.method) {

@@ -1,4 +1,6 @@
 // Requests: a client's bytes read strictly, piece by piece; the canonical form of what they mean, and how it is written.
+#![tactic(auto)]
+
 pub mod canonical;
 pub mod first;
 pub mod found;

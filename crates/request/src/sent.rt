@@ -1,6 +1,6 @@
 // A request whose fields are held as they were sent, and its bytes in canonical form. Its first line and its length are those of the canonical
 // request with the same method, target and body.
-ghost use Rattle.std.specs.Prelude.{◌≡◌, length};
+ghost use Rattle.std.specs.Prelude.{◌≡◌, length, []};
 ghost use Rattle.text.specs.Bytes.{capped};
 ghost use Rattle.request.specs.Canonical.{write};
 ghost use Rattle.request.specs.Writing.{view_request, head_length, first_bytes, length_bytes, Written};

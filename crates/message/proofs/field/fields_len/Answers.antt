@@ -17,7 +17,7 @@ unfolding field_lines lines_of
 loop-f-init c = omega arith
 
 pub loop-f-preserved : goal.loop-f-preserved
-loop-f-preserved c = step c.args.fields.now c.loop-f.f-index _ _ _ _ c.loop-f-test.true c.loop-f.invariant c.line-len.ensures c.saturating-add-n.ensures
+loop-f-preserved c = step c.args.fields.now c.loop-f.f-index _ _ _ _ c.loop-f-test.true c.loop-f.invariant c.line_len.ensures c.saturating_add-n.ensures
 
 pub returns : goal.returns
 returns c = c.loop-f.invariant ∙ ap (λ t. capped (length t)) (field_bytes_all c.args.fields.now c.loop-f.f-index c.loop-f-test.false)

@@ -10,7 +10,7 @@ loop-f-init c = wrote_none c.args.out.now
 
 pub loop-f-preserved : goal.loop-f-preserved
 loop-f-preserved c =
-    wrote_as _ _ _ (sym (field_bytes_more c.args.fields.now c.loop-f.f-index _ c.loop-f-test.true)) (wrote_more _ _ _ _ _ _ _ c.loop-f.invariant c.put-line-n.ensures)
+    wrote_as _ _ _ (sym (field_bytes_more c.args.fields.now c.loop-f.f-index _ c.loop-f-test.true)) (wrote_more _ _ _ _ _ _ _ c.loop-f.invariant c.put_line-n.ensures)
 
 pub returns : goal.returns
 returns c = wrote_as _ _ _ (field_bytes_all c.args.fields.now c.loop-f.f-index c.loop-f-test.false) c.loop-f.invariant

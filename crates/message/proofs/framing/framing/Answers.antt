@@ -1,4 +1,4 @@
-use Rattle.std.proofs.Common.{◌≡◌, ℕ, ◌+◌, ◌<◌, ◌≤◌, List, [], length, get_or, drop, Ok, Option, Result, sym, ap, ◌∙◌}
+use Rattle.std.proofs.Common.{◌≡◌, ℕ, ◌+◌, ◌<◌, ◌≤◌, List, length, get_or, drop, Ok, Option, Result, sym, ap, ◌∙◌}
 use Rattle.std.proofs.lemmas.List.{drop_more, drop_all}
 use Rattle.std.proofs.lemmas.Result.{err_from_is_err_and}
 use Rattle.message.specs.Faults.{onward}
@@ -18,13 +18,13 @@ none : (said : Option Said) (ls : List Line) (i : ℕ) → length ls ≤ i → O
 unfolding framed
 none said ls i h = sym (ap (λ xs. framed said (view_lines xs)) (drop_all i ls h))
 
-pub returns-in-err-said : goal.returns-in-err-said
-returns-in-err-said c =
-    let p = err_from_is_err_and c.from-residual.result c.from-residual.ensures.1 in
-    rw (p.1, p.2) (one c.loop-line.said c.args.lines.now c.loop-line.line-index _ _ c.loop-line-test.true c.in-err-said.ensures ∙ c.loop-line.invariant)
+pub returns-in_err-said : goal.returns-in_err-said
+returns-in_err-said c =
+    let p = err_from_is_err_and c.from_residual.result c.from_residual.ensures.1 in
+    rw (p.1, p.2) (one c.loop-line.said c.args.lines.now c.loop-line.line-index _ _ c.loop-line-test.true c.in_err-said.ensures ∙ c.loop-line.invariant)
 
 pub loop-line-preserved : goal.loop-line-preserved
-loop-line-preserved c = one c.loop-line.said c.args.lines.now c.loop-line.line-index _ _ c.loop-line-test.true c.in-ok-said.ensures ∙ c.loop-line.invariant
+loop-line-preserved c = one c.loop-line.said c.args.lines.now c.loop-line.line-index _ _ c.loop-line-test.true c.in_ok-said.ensures ∙ c.loop-line.invariant
 
 pub returns : goal.returns
 returns c = none c.loop-line.said c.args.lines.now c.loop-line.line-index c.loop-line-test.false ∙ c.loop-line.invariant

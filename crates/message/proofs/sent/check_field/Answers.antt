@@ -1,4 +1,4 @@
-use Rattle.std.proofs.Common.{◌≡◌, ℕ, ◌+◌, ◌-◌, ◌<◌, ◌≤◌, Bool, true, false, cond, not, ◌||◌, eqb, ltb, leb, length, take, drop, Ok, Err, sym, ap, ◌∙◌, inl, inr, ⊎_elim}
+use Rattle.std.proofs.Common.{◌≡◌, ℕ, ◌+◌, ◌-◌, ◌<◌, ◌≤◌, Bool, true, false, cond, not, ◌||◌, eqb, ltb, leb, length, take, drop, Ok, Err, sym, ap, ◌∙◌, ⊎_elim}
 use Rattle.std.specs.List.{prefix_len}
 use Rattle.std.proofs.lemmas.List.{take_rest}
 use Rattle.std.proofs.lemmas.Bool.{cond-true, cond-false, le-ltb, lt-ltb, lt-leb, ne_eqb, or_from, or_left, or_right, not_from_true, not_from_false}
@@ -26,27 +26,27 @@ named at l e n g v few some good colon =
 pub returns-then-good-line : goal.returns-then-good-line
 returns-then-good-line c =
     let l = c.args.line.now in
-    let n = c.span-before-name.result in
+    let n = c.span_before-name.result in
     let v = n + 1 + c.span.result in
     let bad : (ltb v (length l) || not c.args.ended) ≡ true = ⊎_elim (λ h. or_left _ _ (lt-ltb v (length l) h)) (λ h. or_right _ _ (not_from_false _ h.1)) c.then-good-line.either in
     record {
       is =
           sym (cond-true _ _ _ bad)
           ∙ sym (named c.args.at l c.args.ended n c.span-good.result v c.if-name-gt64.false c.if-name-eq0.false c.if-good-name.false c.if-name-line.false)
-          ∙ judged c.args.at l c.args.ended n c.span-good.result c.span.result c.span-before-name.ensures.is c.span-good.ensures.is c.span.ensures.is;
+          ∙ judged c.args.at l c.args.ended n c.span-good.result c.span.result c.span_before-name.ensures.is c.span-good.ensures.is c.span.ensures.is;
       within = tt;
     }
 
 pub returns : goal.returns
 returns c =
     let l = c.args.line.now in
-    let n = c.span-before-name.result in
+    let n = c.span_before-name.result in
     let v = n + 1 + c.span.result in
     let well : (ltb v (length l) || not c.args.ended) ≡ false = or_from _ _ (le-ltb v (length l) c.if-good-line.false) (not_from_true _ c.if-not-ended.false) in
     record {
       is =
           sym (cond-false _ _ _ well)
           ∙ sym (named c.args.at l c.args.ended n c.span-good.result v c.if-name-gt64.false c.if-name-eq0.false c.if-good-name.false c.if-name-line.false)
-          ∙ judged c.args.at l c.args.ended n c.span-good.result c.span.result c.span-before-name.ensures.is c.span-good.ensures.is c.span.ensures.is;
+          ∙ judged c.args.at l c.args.ended n c.span-good.result c.span.result c.span_before-name.ensures.is c.span-good.ensures.is c.span.ensures.is;
       within = c.if-name-line.false;
     }

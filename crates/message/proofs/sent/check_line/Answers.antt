@@ -1,4 +1,4 @@
-use Rattle.std.proofs.Common.{◌≡◌, ℕ, zero, suc, Bool, Err, sym, refl, ap, ◌∙◌, arith}
+use Rattle.std.proofs.Common.{◌≡◌, ℕ, zero, suc, Bool, Err, refl, ◌∙◌, arith}
 use Rattle.text.specs.Bytes.{Text}
 use Rattle.message.specs.Faults.{flaw}
 use Rattle.message.specs.Sent.{check_field, check_line}
@@ -19,4 +19,4 @@ pub returns-then-left-eq0 : goal.returns-then-left-eq0
 returns-then-left-eq0 c = record { is = none_left _ _ _ _ c.if-left-eq0.true; within = tt }
 
 pub returns : goal.returns
-returns c = record { is = c.check-field.ensures.is ∙ some_left _ _ _ _ c.if-left-eq0.false; within = c.check-field.ensures.within }
+returns c = record { is = c.check_field.ensures.is ∙ some_left _ _ _ _ c.if-left-eq0.false; within = c.check_field.ensures.within }

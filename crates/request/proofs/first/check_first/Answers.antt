@@ -59,12 +59,12 @@ pub returns-then-end-line : goal.returns-then-end-line
 returns-then-end-line c =
     let l = c.args.line.now in
     let m = c.span-method.result in
-    let t = c.span-before-target.result in
+    let t = c.span_before-target.result in
     record {
       is =
           ap Err c.wrong-then-end-line.ensures
           ∙ sym (no_version l c.args.ended m t c.if-method-eq0.false c.if-method-gt16.false c.if-method-line.false c.if-line-method-ne32.false c.if-start-line.false c.if-line-start-ne47.false c.if-end-line.true)
-          ∙ with_spans l c.args.ended m t c.span-method.ensures.is c.span-before-target.ensures.is;
+          ∙ with_spans l c.args.ended m t c.span-method.ensures.is c.span_before-target.ensures.is;
       within = tt;
     }
 
@@ -72,13 +72,13 @@ pub returns-then-good-lt8 : goal.returns-then-good-lt8
 returns-then-good-lt8 c =
     let l = c.args.line.now in
     let m = c.span-method.result in
-    let t = c.span-before-target.result in
+    let t = c.span_before-target.result in
     let g = c.agreeing-good.result in
     record {
       is =
           ap Err c.wrong-then-good-lt8.ensures
           ∙ sym (version_wrong l c.args.ended m t c.if-method-eq0.false c.if-method-gt16.false c.if-method-line.false c.if-line-method-ne32.false c.if-start-line.false c.if-line-start-ne47.false c.if-end-line.false _ (take_rest l (m + 1 + t + 1)) g c.agreeing-good.ensures.is (bad_version_so g _ c.args.ended c.then-good-lt8.either))
-          ∙ with_spans l c.args.ended m t c.span-method.ensures.is c.span-before-target.ensures.is;
+          ∙ with_spans l c.args.ended m t c.span-method.ensures.is c.span_before-target.ensures.is;
       within = tt;
     }
 
@@ -86,11 +86,11 @@ pub returns : goal.returns
 returns c =
     let l = c.args.line.now in
     let m = c.span-method.result in
-    let t = c.span-before-target.result in
+    let t = c.span_before-target.result in
     let g = c.agreeing-good.result in
     record {
       is =
           sym (version_right l c.args.ended m t c.if-method-eq0.false c.if-method-gt16.false c.if-method-line.false c.if-line-method-ne32.false c.if-start-line.false c.if-line-start-ne47.false c.if-end-line.false _ (take_rest l (m + 1 + t + 1)) g c.agreeing-good.ensures.is (good_version g _ c.args.ended c.if-good-lt8.false c.if-version-gt8.false c.if-not-ended.false))
-          ∙ with_spans l c.args.ended m t c.span-method.ensures.is c.span-before-target.ensures.is;
+          ∙ with_spans l c.args.ended m t c.span-method.ensures.is c.span_before-target.ensures.is;
       within = c.if-end-line.false;
     }

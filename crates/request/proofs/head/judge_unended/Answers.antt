@@ -17,7 +17,7 @@ strayed w n r cut e =
     let go : Result First Flaw → Result (Option Judged) Flaw = λ s. onward s (λ first. Ok None) in
     ap go (e ∙ ap (λ k. check_first (take k w) false) (sub-zero n)) ∙ ap (unlined w) cut
 
-pub returns-in-err-check-first : goal.returns-in-err-check-first
-returns-in-err-check-first c =
-    let p = err_from_is_err_and c.from-residual.result c.from-residual.ensures.1 in
-    rw (p.1, p.2) (strayed c.args.window.now c.in-Stray.n (Err c.in-err-check-first.field-0.0) c.in-Stray.ensures.is c.in-err-check-first.ensures.is)
+pub returns-in_err-check_first : goal.returns-in_err-check_first
+returns-in_err-check_first c =
+    let p = err_from_is_err_and c.from_residual.result c.from_residual.ensures.1 in
+    rw (p.1, p.2) (strayed c.args.window.now c.in-Stray.n (Err c.in_err-check_first.field-0.0) c.in-Stray.ensures.is c.in_err-check_first.ensures.is)

@@ -8,7 +8,7 @@ use Rattle.message.specs.declared.fault.Flaw.{Flaw}
 use Rattle.message.specs.declared.sent.Line.{Line}
 use Rattle.request.specs.Hosts.{is_host, second, host_among, view_one}
 use Rattle.request.proofs.host.one_host.Goals as goal
-use Rattle.request.proofs.host.one_host.Goals.{then-eq-ignore-case+else-is-some, else-eq-ignore-case}
+use Rattle.request.proofs.host.one_host.Goals.{then-eq_ignore_case+else-is_some, else-eq_ignore_case}
 
 -- what the next line decides
 one : (o : Option Sent) (ls : List Line) (i : ℕ) (d : Line) → i < length ls →
@@ -29,10 +29,10 @@ first : (o : Option Line) (f : Sent) (next : Result (Option Sent) Flaw) → fals
 first None f next e = refl
 first (Some g) f next e = absurd (both_ways _ (sym e) refl)
 
-pub returns-then-is-some : goal.returns-then-is-some
-returns-then-is-some c =
+pub returns-then-is_some : goal.returns-then-is_some
+returns-then-is_some c =
     let o = c.loop-line.host in
-    sym (one (view_one o) c.args.lines.now c.loop-line.line-index _ c.loop-line-test.true ∙ cond-true _ _ _ (sym c.if-eq-ignore-case.ensures) ∙ again o _ _ c.if-is-some.ensures) ∙ c.loop-line.invariant
+    sym (one (view_one o) c.args.lines.now c.loop-line.line-index _ c.loop-line-test.true ∙ cond-true _ _ _ (sym c.if-eq_ignore_case.ensures) ∙ again o _ _ c.if-is_some.ensures) ∙ c.loop-line.invariant
 
 pub loop-line-preserved : goal.loop-line-preserved
 loop-line-preserved c =
@@ -40,11 +40,11 @@ loop-line-preserved c =
     let ls = c.args.lines.now in
     let i = c.loop-line.line-index in
     let next = one (view_one o) ls i _ c.loop-line-test.true in
-    elim c.if-eq-ignore-case.branch [
-      | then-eq-ignore-case+else-is-some w ↦
-          ap (λ p. host_among (view_one p) (view_lines (drop (i + 1) ls))) w.host-is ∙ sym (next ∙ cond-true _ _ _ (sym w.if-eq-ignore-case.ensures) ∙ first o _ _ w.if-is-some.ensures) ∙ c.loop-line.invariant
-      | else-eq-ignore-case w ↦
-          ap (λ p. host_among (view_one p) (view_lines (drop (i + 1) ls))) w.host-is ∙ sym (next ∙ cond-false _ _ _ (sym w.if-eq-ignore-case.ensures)) ∙ c.loop-line.invariant
+    elim c.if-eq_ignore_case.branch [
+      | then-eq_ignore_case+else-is_some w ↦
+          ap (λ p. host_among (view_one p) (view_lines (drop (i + 1) ls))) w.host-is ∙ sym (next ∙ cond-true _ _ _ (sym w.if-eq_ignore_case.ensures) ∙ first o _ _ w.if-is_some.ensures) ∙ c.loop-line.invariant
+      | else-eq_ignore_case w ↦
+          ap (λ p. host_among (view_one p) (view_lines (drop (i + 1) ls))) w.host-is ∙ sym (next ∙ cond-false _ _ _ (sym w.if-eq_ignore_case.ensures)) ∙ c.loop-line.invariant
     ]
 
 pub returns : goal.returns

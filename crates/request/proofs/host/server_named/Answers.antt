@@ -13,13 +13,13 @@ none_left : (name : Text) (ts : List (Bor Text)) (i : ℕ) → length ts ≤ i �
 unfolding server_from
 none_left name ts i h = ap (λ ys. server_from i name (map (λ x. x.now) ys)) (drop_all i ts h)
 
-pub returns-then-eq-ignore-case : goal.returns-then-eq-ignore-case
-returns-then-eq-ignore-case c =
-    sym (one c.args.name.now c.args.servers.now c.loop-i.i _ c.loop-i-test.true ∙ cond-true _ _ _ (sym c.if-eq-ignore-case.ensures)) ∙ c.loop-i.invariant
+pub returns-then-eq_ignore_case : goal.returns-then-eq_ignore_case
+returns-then-eq_ignore_case c =
+    sym (one c.args.name.now c.args.servers.now c.loop-i.i _ c.loop-i-test.true ∙ cond-true _ _ _ (sym c.if-eq_ignore_case.ensures)) ∙ c.loop-i.invariant
 
 pub loop-i-preserved : goal.loop-i-preserved
 loop-i-preserved c =
-    sym (one c.args.name.now c.args.servers.now c.loop-i.i _ c.loop-i-test.true ∙ cond-false _ _ _ (sym c.if-eq-ignore-case.ensures)) ∙ c.loop-i.invariant
+    sym (one c.args.name.now c.args.servers.now c.loop-i.i _ c.loop-i-test.true ∙ cond-false _ _ _ (sym c.if-eq_ignore_case.ensures)) ∙ c.loop-i.invariant
 
 pub returns : goal.returns
 returns c = sym (none_left c.args.name.now c.args.servers.now c.loop-i.i c.loop-i-test.false) ∙ c.loop-i.invariant

@@ -56,17 +56,17 @@ module _ (head : Head) (filled : ℕ) (chunk : Chunk) (memory piece : Text) wher
     outcome_so : (o : Outcome) (out : Text) → f.outcome ≡ o → out ≡ chunkHeld chunk free piece → on_outcome head filled f (take filled memory ++ out) o ≡ chunks_step head filled chunk memory piece
     outcome_so o out is h = ap (on_outcome head filled f (take filled memory ++ out)) (sym is) ∙ step_so (Ok f) out e h
 
-pub returns-in-default : goal.returns-in-default
-returns-in-default c =
-    let so = step_so c.args.head c.args.filled c.args.chunk c.args.memory.now c.args.piece.now (Err c.in-default.field-0) c.feed.new.out c.in-default.ensures.told c.feed.ensures.held in
+pub returns-in_default : goal.returns-in_default
+returns-in_default c =
+    let so = step_so c.args.head c.args.filled c.args.chunk c.args.memory.now c.args.piece.now (Err c.in_default.field-0) c.feed.new.out c.in_default.ensures.told c.feed.ensures.held in
     record {
       told = ap fed_by so;
-      held = unfit_held c.args.head c.args.filled c.args.chunk c.args.memory.now c.args.piece.now c.in-default.field-0 c.feed.new.out c.in-default.ensures.told c.feed.ensures.held ∙ ap (λ (a : After). a.memory) so;
+      held = unfit_held c.args.head c.args.filled c.args.chunk c.args.memory.now c.args.piece.now c.in_default.field-0 c.feed.new.out c.in_default.ensures.told c.feed.ensures.held ∙ ap (λ (a : After). a.memory) so;
       within = omega arith;
     }
 
-pub overflow-add-filled : goal.overflow-add-filled
-overflow-add-filled c =
+pub overflow_add-filled : goal.overflow_add-filled
+overflow_add-filled c =
     let h = written_within c.args.head c.args.filled c.args.chunk c.args.memory.now c.args.piece.now c.in-Ok.fed c.in-Ok.ensures.told c.requires.1 in
     search rules
 

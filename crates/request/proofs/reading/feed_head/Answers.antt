@@ -77,17 +77,17 @@ sub_within len filled n seen long a b c = omega arith
 seen_long : (n : ℕ) (xs : Text) → length (take (n - 0) xs) ≤ n
 seen_long n xs = simp length-take (omega arith)
 
-pub overflow-sub-filled : goal.overflow-sub-filled
+pub overflow_sub-filled : goal.overflow_sub-filled
 unfolding window
-overflow-sub-filled c = c.requires.0
+overflow_sub-filled c = c.requires.0
 
 pub store-requires : goal.store-requires
 unfolding window
 store-requires c = rw c.requires.1 (stored_fits c.args.filled c.min-n.result window memory_size c.args.piece.now c.requires.0 window_less c.min-n.ensures)
 
-pub slice-bounds-judge-head-end : goal.slice-bounds-judge-head-end
+pub slice_bounds-judge_head-end : goal.slice_bounds-judge_head-end
 unfolding window
-slice-bounds-judge-head-end c = rw (c.store.auto.memory, c.requires.1) (in_memory c.args.filled c.min-n.result window memory_size c.args.piece.now c.requires.0 window_less c.min-n.ensures)
+slice_bounds-judge_head-end c = rw (c.store.auto.memory, c.requires.1) (in_memory c.args.filled c.min-n.result window memory_size c.args.piece.now c.requires.0 window_less c.min-n.ensures)
 
 pub returns-in-Err : goal.returns-in-Err
 unfolding window
@@ -103,8 +103,8 @@ returns-in-Err c =
 pub returns-in-Ok-None : goal.returns-in-Ok-None
 unfolding window
 returns-in-Ok-None c =
-    let none : c.judge-head.result ≡ Ok None = cc in
-    let so = step_so (map (λ x. x.now) c.args.servers.now) c.args.filled c.min-n.result c.args.memory.now c.args.piece.now c.store.new.memory c.requires.0 c.min-n.ensures c.store.ensures (Ok None) (sym none ∙ c.judge-head.ensures.is) in
+    let none : c.judge_head.result ≡ Ok None = cc in
+    let so = step_so (map (λ x. x.now) c.args.servers.now) c.args.filled c.min-n.result c.args.memory.now c.args.piece.now c.store.new.memory c.requires.0 c.min-n.ensures c.store.ensures (Ok None) (sym none ∙ c.judge_head.ensures.is) in
     let there = in_window c.args.filled c.min-n.result window memory_size c.args.piece.now c.requires.0 window_less c.min-n.ensures in
     record {
       told = ap fed_by so;
@@ -118,15 +118,15 @@ unfolding window
 returns-in-Ok-Some c =
     let j = c.in-Ok-Some.judged in
     let seen = take (c.args.filled + c.min-n.result - 0) c.store.new.memory in
-    let some : c.judge-head.result ≡ Ok (Some j) = cc in
-    let so = step_so (map (λ x. x.now) c.args.servers.now) c.args.filled c.min-n.result c.args.memory.now c.args.piece.now c.store.new.memory c.requires.0 c.min-n.ensures c.store.ensures (Ok (Some j)) (sym some ∙ c.judge-head.ensures.is) in
-    let sound : Sound (length seen) (Ok (Some j)) = subst (λ (r : Result (Option Judged) Flaw). Sound (length seen) r) some c.judge-head.ensures.sound in
+    let some : c.judge_head.result ≡ Ok (Some j) = cc in
+    let so = step_so (map (λ x. x.now) c.args.servers.now) c.args.filled c.min-n.result c.args.memory.now c.args.piece.now c.store.new.memory c.requires.0 c.min-n.ensures c.store.ensures (Ok (Some j)) (sym some ∙ c.judge_head.ensures.is) in
+    let sound : Sound (length seen) (Ok (Some j)) = subst (λ (r : Result (Option Judged) Flaw). Sound (length seen) r) some c.judge_head.ensures.sound in
     let there = in_window c.args.filled c.min-n.result window memory_size c.args.piece.now c.requires.0 window_less c.min-n.ensures in
     let long = seen_long (c.args.filled + c.min-n.result) c.store.new.memory in
     let less = in_piece c.args.filled c.min-n.result window memory_size c.args.piece.now c.requires.0 window_less c.min-n.ensures in
     record {
-      told = ap (λ k. record { reading = InBody j.head j.head.len j.due; taken = k }) c.saturating-sub.ensures ∙ ap fed_by so;
+      told = ap (λ k. record { reading = InBody j.head j.head.len j.due; taken = k }) c.saturating_sub.ensures ∙ ap fed_by so;
       held = ap (λ (a : After). a.memory) so;
       fits = judged_fits (length c.store.new.memory) (length seen) j (c.store.auto.memory ∙ c.requires.1) (le_trans long there) sound;
-      within = rw c.saturating-sub.ensures (sub_within j.head.len c.args.filled c.min-n.result (length seen) (length c.args.piece.now) sound.2 long less);
+      within = rw c.saturating_sub.ensures (sub_within j.head.len c.args.filled c.min-n.result (length seen) (length c.args.piece.now) sound.2 long less);
     }

@@ -33,7 +33,7 @@ returns c =
     let memory = c.args.memory.now in
     let n = head.method + 1 in
     let undoing : undone (target head c.args.end memory) ≡ undone (target_in head memory) = ap undone (is_target head c.args.end memory) in
-    let so = judged_so_so head c.args.end memory (Ok tt) c.in-default.ensures.is in
+    let so = judged_so_so head c.args.end memory (Ok tt) c.in_default.ensures.is in
     record {
       told = ap (λ k. Whole (with_target head k) c.args.end) (c.undo-target.ensures.value ∙ ap length undoing) ∙ ap (λ (s : Settled). s.reading) so;
       held =

@@ -14,17 +14,17 @@ decides t at n b h e f =
     let next = bad_part_in (at + n + 1) (parts_from (at + n + 1) t) in
     bad_part_next t at n h (e ∙ ap (before 47) (take_rest t at)) ∙ ap (λ p. cond p (Some (at + n)) next) (sym (f ∙ ap (λ k. bad_part (take k (drop at t))) long))
 
-pub returns-then-is-bad-part : goal.returns-then-is-bad-part
-returns-then-is-bad-part c =
+pub returns-then-is_bad_part : goal.returns-then-is_bad_part
+returns-then-is_bad_part c =
     let t = c.args.path.now in
     record {
-      is = sym (decides t c.loop-at.at c.span-before.result _ c.loop-at-test.true c.span-before.ensures.is c.if-is-bad-part.ensures) ∙ c.loop-at.invariant ∙ sym (cond-false _ _ _ (lt-leb (length t) 1 c.if-path-le1.false));
-      within = omega (arith, simp (length-take, length-drop) at c.span-before.ensures.within);
+      is = sym (decides t c.loop-at.at c.span_before.result _ c.loop-at-test.true c.span_before.ensures.is c.if-is_bad_part.ensures) ∙ c.loop-at.invariant ∙ sym (cond-false _ _ _ (lt-leb (length t) 1 c.if-path-le1.false));
+      within = omega (arith, simp (length-take, length-drop) at c.span_before.ensures.within);
     }
 
 pub loop-at-preserved : goal.loop-at-preserved
 loop-at-preserved c =
-    sym (decides c.args.path.now c.loop-at.at c.span-before.result _ c.loop-at-test.true c.span-before.ensures.is c.if-is-bad-part.ensures) ∙ c.loop-at.invariant
+    sym (decides c.args.path.now c.loop-at.at c.span_before.result _ c.loop-at-test.true c.span_before.ensures.is c.if-is_bad_part.ensures) ∙ c.loop-at.invariant
 
 pub returns : goal.returns
 returns c =

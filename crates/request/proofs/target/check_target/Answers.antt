@@ -42,40 +42,40 @@ pub returns-in-Some : goal.returns-in-Some
 returns-in-Some c =
     let found = c.in-Some.ensures in
     record {
-      is = at_start PathByte c.in-Some.place ∙ token_found c.args.target.now c.span-before-mark.result c.span-before-mark.ensures.is _ found.is;
+      is = at_start PathByte c.in-Some.place ∙ token_found c.args.target.now c.span_before-mark.result c.span_before-mark.ensures.is _ found.is;
       within = omega (arith, simp length-take at found.within);
     }
 
-pub returns-in-Some-bad-part : goal.returns-in-Some-bad-part
-returns-in-Some-bad-part c =
-    let found = c.in-Some-bad-part.ensures in
+pub returns-in-Some-bad_part : goal.returns-in-Some-bad_part
+returns-in-Some-bad_part c =
+    let found = c.in-Some-bad_part.ensures in
     record {
-      is = at_start PathPart c.in-Some-bad-part.place ∙ part_found c.args.target.now c.span-before-mark.result c.span-before-mark.ensures.is _ c.in-default.ensures.is found.is;
+      is = at_start PathPart c.in-Some-bad_part.place ∙ part_found c.args.target.now c.span_before-mark.result c.span_before-mark.ensures.is _ c.in_default.ensures.is found.is;
       within = omega (arith, simp length-take at found.within);
     }
 
 pub returns-then-mark-target : goal.returns-then-mark-target
 returns-then-mark-target c =
     record {
-      is = no_query c.args.target.now c.span-before-mark.result c.span-before-mark.ensures.is c.in-default.ensures.is c.in-default-bad-part.ensures.is c.if-mark-target.true;
+      is = no_query c.args.target.now c.span_before-mark.result c.span_before-mark.ensures.is c.in_default.ensures.is c.in_default-bad_part.ensures.is c.if-mark-target.true;
       within = tt;
     }
 
-pub returns-in-Some-bad-query : goal.returns-in-Some-bad-query
-returns-in-Some-bad-query c =
+pub returns-in-Some-bad_query : goal.returns-in-Some-bad_query
+returns-in-Some-bad_query c =
     let t = c.args.target.now in
-    let m = c.span-before-mark.result in
-    let found = c.in-Some-bad-query.ensures in
+    let m = c.span_before-mark.result in
+    let found = c.in-Some-bad_query.ensures in
     record {
-      is = query_found t m c.span-before-mark.ensures.is _ c.in-default.ensures.is c.in-default-bad-part.ensures.is (found.is ∙ ap bad_query (take_rest t (m + 1)));
+      is = query_found t m c.span_before-mark.ensures.is _ c.in_default.ensures.is c.in_default-bad_part.ensures.is (found.is ∙ ap bad_query (take_rest t (m + 1)));
       within = omega (arith, simp (length-take, length-drop) at found.within);
     }
 
 pub returns-in-None : goal.returns-in-None
 returns-in-None c =
     let t = c.args.target.now in
-    let m = c.span-before-mark.result in
+    let m = c.span_before-mark.result in
     record {
-      is = query_found t m c.span-before-mark.ensures.is _ c.in-default.ensures.is c.in-default-bad-part.ensures.is (c.in-None.ensures.is ∙ ap bad_query (take_rest t (m + 1)));
+      is = query_found t m c.span_before-mark.ensures.is _ c.in_default.ensures.is c.in_default-bad_part.ensures.is (c.in-None.ensures.is ∙ ap bad_query (take_rest t (m + 1)));
       within = tt;
     }

@@ -91,12 +91,12 @@ counted e v r h w = omega (arith, w.count)
 pub returns-then-mark-target : goal.returns-then-mark-target
 returns-then-mark-target c =
     let e = c.args.target.now in
-    let m = c.span-before-mark.result in
-    let is = c.span-before-mark.ensures.is in
-    let fits = c.undo-path-n.ensures.within in
-    let part = c.undo-path-n.new.path in
-    let n = c.undo-path-n.result in
-    let w = c.undo-path-n.ensures.is in
+    let m = c.span_before-mark.result in
+    let is = c.span_before-mark.ensures.is in
+    let fits = c.undo_path-n.ensures.within in
+    let part = c.undo_path-n.new.path in
+    let n = c.undo_path-n.result in
+    let w = c.undo_path-n.ensures.is in
     let short : length e ≤ m + 1 = omega (arith, c.if-mark-target.true, long e m is fits part n w) in
     let all = wrote_as e _ n (path_alone e m is fits part n w short) (path_done e m is fits part n w) in
     record { value = counted e _ n (all_fits e m is fits) all; after = all.holds; within = all_fits e m is fits }
@@ -104,12 +104,12 @@ returns-then-mark-target c =
 pub returns : goal.returns
 returns c =
     let e = c.args.target.now in
-    let m = c.span-before-mark.result in
-    let is = c.span-before-mark.ensures.is in
-    let fits = c.undo-path-n.ensures.within in
-    let part = c.undo-path-n.new.path in
-    let n = c.undo-path-n.result in
-    let w = c.undo-path-n.ensures.is in
+    let m = c.span_before-mark.result in
+    let is = c.span_before-mark.ensures.is in
+    let fits = c.undo_path-n.ensures.within in
+    let part = c.undo_path-n.new.path in
+    let n = c.undo_path-n.result in
+    let w = c.undo_path-n.ensures.is in
     let more : m + 1 < length e = omega (arith, c.if-mark-target.false, long e m is fits part n w) in
-    let all = wrote_as e _ _ (both e m is fits part n w more) (wrote_more _ _ e _ _ n c.move-down.result (path_done e m is fits part n w) c.move-down.ensures) in
+    let all = wrote_as e _ _ (both e m is fits part n w more) (wrote_more _ _ e _ _ n c.move_down.result (path_done e m is fits part n w) c.move_down.ensures) in
     record { value = counted e _ _ (all_fits e m is fits) all; after = all.holds; within = all_fits e m is fits }

@@ -1,4 +1,4 @@
-use Rattle.std.proofs.Common.{◌≡◌, [], ◌∷◌, ◌++◌, ap, ◌∙◌, append_assoc}
+use Rattle.std.proofs.Common.{◌≡◌, [], ◌∷◌, ◌++◌, append_assoc}
 use Rattle.text.specs.Bytes.{Text, lowered}
 use Rattle.text.specs.Trims.{squeezed}
 use Rattle.text.proofs.Places.{wrote_more, wrote_as}
@@ -11,4 +11,4 @@ unfolding lines_of
 one_line n v = simp append_assoc
 
 pub returns : goal.returns
-returns c = wrote_as _ _ _ (one_line (lowered c.args.self.now.name.now) (squeezed c.args.self.now.value.now)) (wrote_more _ _ _ _ _ _ _ (wrote_more _ _ _ _ _ _ _ (wrote_more _ _ _ _ _ _ _ c.put-lower-n.ensures c.put.ensures) c.put-squeezed.ensures) c.put-2.ensures)
+returns c = wrote_as _ _ _ (one_line (lowered c.args.self.now.name.now) (squeezed c.args.self.now.value.now)) (wrote_more _ _ _ _ _ _ _ (wrote_more _ _ _ _ _ _ _ (wrote_more _ _ _ _ _ _ _ c.put_lower-n.ensures c.put.ensures) c.put_squeezed.ensures) c.put-2.ensures)

@@ -4,9 +4,9 @@ use Rattle.text.specs.Bytes.{capped}
 use Rattle.message.specs.Views.{field_line}
 use Rattle.request.proofs.canonical.Request.length_len.Goals as goal
 
-pub returns-then-not-carries-body : goal.returns-then-not-carries-body
-returns-then-not-carries-body c = ap (λ t. capped (length t)) (sym (cond-false _ _ _ (sym c.if-not-carries-body.ensures)))
+pub returns-then-not-carries_body : goal.returns-then-not-carries_body
+returns-then-not-carries_body c = ap (λ t. capped (length t)) (sym (cond-false _ _ _ (sym c.if-not-carries_body.ensures)))
 
 pub returns : goal.returns
 returns c =
-    c.line-len.ensures ∙ ap (λ f. capped (length (field_line f))) c.length-field.ensures ∙ ap (λ t. capped (length t)) (sym (cond-true _ _ _ (sym c.if-not-carries-body.ensures)))
+    c.line_len.ensures ∙ ap (λ f. capped (length (field_line f))) c.length_field.ensures ∙ ap (λ t. capped (length t)) (sym (cond-true _ _ _ (sym c.if-not-carries_body.ensures)))

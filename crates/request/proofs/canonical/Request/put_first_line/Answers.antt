@@ -1,4 +1,4 @@
-use Rattle.std.proofs.Common.{◌≡◌, [], ◌∷◌, ◌++◌, codes, append_assoc}
+use Rattle.std.proofs.Common.{◌≡◌, [], ◌∷◌, ◌++◌, append_assoc}
 use Rattle.text.specs.Bytes.{Text}
 use Rattle.text.proofs.Places.{wrote_more, wrote_as}
 use Rattle.message.specs.Fields.{lines_of}

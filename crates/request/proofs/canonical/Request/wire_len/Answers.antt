@@ -1,9 +1,8 @@
-use Rattle.std.proofs.Common.{◌≡◌, ℕ, ◌+◌, [], ◌∷◌, length, sym, ap, ◌∙◌, arith}
+use Rattle.std.proofs.Common.{◌≡◌, ◌+◌, length, sym, ap, ◌∙◌, arith}
 use Rattle.std.proofs.lemmas.List.{length-append}
-use Rattle.text.specs.Bytes.{Text}
 use Rattle.message.specs.Fields.{lines_of}
 use Rattle.message.specs.Views.{field_bytes}
-use Rattle.request.specs.Canonical.{Req, first_line, write}
+use Rattle.request.specs.Canonical.{Req, write}
 use Rattle.request.specs.Writing.{view_request, first_bytes, length_bytes}
 use Rattle.request.proofs.Parts.{write_parts}
 use Rattle.request.proofs.canonical.Request.wire_len.Goals as goal
@@ -20,4 +19,4 @@ returns c =
     let q = view_request c.args.self.now in
     let first = first_len q in
     let parts = parts_len q in
-    omega (arith, c.saturating-add.ensures, c.saturating-add-first.ensures, c.fields-len.ensures, c.saturating-add-2.ensures, c.length-len.ensures, c.saturating-add-head.ensures, c.saturating-add-3.ensures, c.saturating-add-4.ensures)
+    omega (arith, c.saturating_add.ensures, c.saturating_add-first.ensures, c.fields_len.ensures, c.saturating_add-2.ensures, c.length_len.ensures, c.saturating_add-head.ensures, c.saturating_add-3.ensures, c.saturating_add-4.ensures)

@@ -26,4 +26,4 @@ returns-in-Ended c =
     let room : length c.table-table.result ≡ field_limit = omega arith in
     let few : length c.in-Ended.lines.now ≤ length c.args.fields.now = omega (arith, c.in-Ended.ensures.within, c.requires) in
     whole c.args.self c.args.end c.in-Ended.field-1 _ c.args.memory.now c.in-Ended.lines.now _ _ _
-    (sym c.if-not-holds.ensures) room c.in-Ended.ensures.is (c.keep-sent-on.ensures.all few) c.parts-request.ensures c.limited.ensures
+    (sym c.if-not-holds.ensures) room c.in-Ended.ensures.is (c.keep-sent_on.ensures.all few) c.parts-request.ensures c.limited.ensures

@@ -28,8 +28,8 @@ returns c =
     let piece = c.args.piece.now in
     let names = map (λ x. x.now) c.args.servers.now in
     let front = front_step names c.args.self memory piece in
-    let head = c.feed-front-head in
-    let body = c.feed-body-body in
+    let head = c.feed_front-head in
+    let body = c.feed_body-body in
     let fits = sym c.if-not-fits.ensures in
     record {
       told = ap Ok (told_so front piece head.result head.new.memory head.ensures.told head.ensures.held body.result body.ensures.told) ∙ sym (cond-true (fits_in (length memory) c.args.self) _ _ fits);

@@ -16,7 +16,7 @@ returns-in-InHead c = sized c.args.size c.args.self _ c.if-size-eq-MEMORY.true c
 pub returns-then-fits : goal.returns-then-fits
 unfolding memory_size
 returns-then-fits c =
-    c.fits.ensures ∙ ap (λ b. b && fits_due c.args.size c.in-InBody.filled c.in-InBody.due) c.if-fits.ensures
+    c.fits-then-fits.ensures ∙ ap (λ b. b && fits_due c.args.size c.in-InBody.filled c.in-InBody.due) c.if-fits.ensures
     ∙ sized c.args.size c.args.self _ c.if-size-eq-MEMORY.true c.in-InBody.is
 
 pub returns-in-Whole : goal.returns-in-Whole

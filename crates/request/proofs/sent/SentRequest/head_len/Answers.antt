@@ -1,10 +1,10 @@
-use Rattle.std.proofs.Common.{◌≡◌, ◌+◌, [], ◌∷◌, length, sym, ap, ◌∙◌, arith}
+use Rattle.std.proofs.Common.{◌≡◌, ◌+◌, length, sym, ap, ◌∙◌, arith}
 use Rattle.std.proofs.lemmas.List.{length-append}
 use Rattle.message.specs.Fields.{lines_of}
 use Rattle.message.specs.Views.{field_bytes}
-use Rattle.request.specs.Canonical.{Req, first_line}
+use Rattle.request.specs.Canonical.{Req}
 use Rattle.request.specs.SentWriting.{view_sent_request}
-use Rattle.request.specs.Writing.{head_length, first_bytes, length_bytes}
+use Rattle.request.specs.Writing.{view_request, head_length, first_bytes, length_bytes}
 use Rattle.request.proofs.Parts.{head_parts}
 use Rattle.request.proofs.sent.SentRequest.head_len.Goals as goal
 
@@ -20,4 +20,5 @@ returns c =
     let q = view_sent_request c.args.self.now in
     let first = first_len q in
     let parts = parts_len q in
-    omega (arith, c.saturating-add.ensures, c.saturating-add-first.ensures, c.fields-len.ensures, c.saturating-add-2.ensures, c.length-len.ensures, c.saturating-add-3.ensures, c.saturating-add-4.ensures)
+    let bare : length (length_bytes (view_request c.bare.result)) ≡ length (length_bytes q) = ap (λ b. length (length_bytes b)) c.bare.ensures in
+    omega (arith, c.saturating_add.ensures, c.saturating_add-first.ensures, c.fields_len.ensures, c.saturating_add-2.ensures, c.length_len.ensures, c.saturating_add-3.ensures, c.saturating_add-4.ensures)

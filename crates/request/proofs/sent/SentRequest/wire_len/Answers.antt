@@ -12,4 +12,4 @@ write_len q = omega (arith, length-append (lines_of (head_lines q)) (13 âˆ· 10 â
 pub returns : goal.returns
 returns c =
     let long = write_len (view_sent_request c.args.self.now) in
-    omega (arith, c.head-len.ensures, c.saturating-add.ensures)
+    omega (arith, c.head_len.ensures, c.saturating_add.ensures)

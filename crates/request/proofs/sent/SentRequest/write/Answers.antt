@@ -1,8 +1,9 @@
-use Rattle.std.proofs.Common.{◌≡◌, ℕ, ◌<◌, ◌≤◌, ◌++◌, length, drop, refl, ◌∙◌, arith}
-use Rattle.text.specs.Bytes.{Text, Wrote, capped}
+use Rattle.std.proofs.Common.{◌≡◌, ℕ, ◌≤◌, ◌++◌, length, drop, refl, ap, ◌∙◌, arith}
+use Rattle.text.specs.Bytes.{Text, Wrote}
 use Rattle.text.proofs.Places.{placed_fits, wrote_more, wrote_as}
 use Rattle.request.specs.Canonical.{write}
 use Rattle.request.specs.SentWriting.{view_sent_request}
+use Rattle.request.specs.Writing.{first_bytes, length_bytes}
 use Rattle.request.proofs.Parts.{write_parts}
 use Rattle.request.proofs.sent.SentRequest.write.Goals as goal
 
@@ -11,11 +12,11 @@ whole : (ys xs then : Text) (n : ℕ) → length ys ≤ length xs → Wrote ys x
 whole ys xs then n h w = (omega (arith, w.count), h, w.holds ∙ placed_fits ys xs h)
 
 pub returns-then-wanted-out : goal.returns-then-wanted-out
-returns-then-wanted-out c = (c.wire-len-wanted.ensures, omega (arith, c.wire-len-wanted.ensures, c.if-wanted-out.true), refl)
+returns-then-wanted-out c = (c.wire_len-wanted.ensures, omega (arith, c.wire_len-wanted.ensures, c.if-wanted-out.true), refl)
 
 pub returns : goal.returns
 returns c =
     let q = view_sent_request c.args.self.now in
-    let room : length (write q) ≤ length c.args.out.now = omega (arith, c.wire-len-wanted.ensures, c.if-wanted-out.false) in
+    let room : length (write q) ≤ length c.args.out.now = omega (arith, c.wire_len-wanted.ensures, c.if-wanted-out.false) in
     whole (write q) c.args.out.now _ _ room
-    (wrote_as _ _ _ (write_parts q) (wrote_more _ _ _ _ _ _ _ (wrote_more _ _ _ _ _ _ _ (wrote_more _ _ _ _ _ _ _ (wrote_more _ _ _ _ _ _ _ c.put-first-line-n.ensures c.put-fields.ensures) c.put-length.ensures) c.put.ensures) c.put-2.ensures))
+    (wrote_as _ _ _ (write_parts q) (wrote_more _ _ _ _ _ _ _ (wrote_more _ _ _ _ _ _ _ (wrote_more _ _ _ _ _ _ _ (wrote_more _ _ _ _ _ _ _ (wrote_as _ _ _ (ap first_bytes c.bare-bare.ensures) c.put_first_line-n.ensures) c.put_fields.ensures) (wrote_as _ _ _ (ap length_bytes c.bare-bare.ensures) c.put_length.ensures)) c.put.ensures) c.put-2.ensures))
