@@ -1,4 +1,6 @@
 // Laws of messages: what the definitions that the code is held to mean, in the words of the grammar.
+#![tactic(auto)]
+
 ghost use Rattle.message_laws.specs.ChunkFaults.{ChunksRefused};
 ghost use Rattle.message_laws.specs.Laws.{ChunksCutFree, ChunksStay, ChunksFit, ChunksRead, OnlyChunks};
 

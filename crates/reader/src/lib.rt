@@ -1,6 +1,8 @@
 // Why no fair reader can misread the canonical form. Each line of a canonical request has some bytes and neither CR nor LF, so that every fair
 // reader cuts the same lines, reads them as everybody does, and knows by the length, which is the last field, where the body ends. Where not all of
 // a request has come, a line, the empty line or the body is cut short, and the reader waits.
+#![tactic(auto)]
+
 ghost use Rattle.reader.specs.Laws.{TakesOne, Waits, ReadsSo, Understood, OneReading, StrictIsFair};
 ghost use Rattle.request.specs.Canonical.{write};
 ghost use Rattle.request.specs.Writing.{view_request, Written};
