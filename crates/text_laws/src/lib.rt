@@ -1,4 +1,6 @@
 // Laws of texts: what the definitions that the code is held to mean, in words of texts joined together.
+#![tactic(auto)]
+
 ghost use Rattle.text_laws.specs.Laws.{WholeLine, ShortLine, StrayLine, Trims, Squeezes, ReadBack, ExactNumeral};
 
 // A line is cut off exactly where the text is a clean line, CR LF and the rest.
