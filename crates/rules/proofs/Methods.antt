@@ -1,6 +1,5 @@
 -- Methods between commas, one at a time.
-use Rattle.std.proofs.Common.{◌≡◌, ℕ, suc, ◌<◌, Bool, true, false, cond, ◌||◌, eqb, [], ◌∷◌, length, Some, None, codes, Option, sym, refl, ap, ◌∙◌, subst, arith}
-use Rattle.std.specs.Option.{option_map}
+use Rattle.std.proofs.Common.{◌≡◌, true, false, ◌||◌, [], Some, None, codes, sym, ap, ◌∙◌}
 use Rattle.std.proofs.lemmas.Bool.{cond-true, cond-false}
 use Rattle.text.specs.Bytes.{Text, same, among}
 use Rattle.text.specs.Marks.{cut_at, split}

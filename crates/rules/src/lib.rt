@@ -1,5 +1,7 @@
 // The rules of a server: the first that fits a request decides, and where none does it is denied. Compared are the parts of the canonical path,
 // where they lie.
+#![tactic(auto)]
+
 ghost use Rattle.std.specs.Prelude.{◌≡◌};
 ghost use Rattle.text.specs.Bytes.{among};
 ghost use Rattle.rules.specs.Laws.{LaterRule};

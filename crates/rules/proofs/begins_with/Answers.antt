@@ -18,7 +18,7 @@ returns-then-start-i c =
     let start = c.args.start.now in
     let path = c.args.path.now in
     let i = c.loop-i.i in
-    let differ = ne_eqb (get_or start i 0) (lower (get_or path i 0)) (λ e. c.if-start-i.true (e ∙ sym c.lower-byte.ensures)) in
+    let differ = ne_eqb (get_or start i 0) (lower (get_or path i 0)) (λ e. c.if-start-i.true (e ∙ sym c.lower_byte.ensures)) in
     sym (goes_one start path i (omega arith) (omega arith) ∙ ap (λ b. b && goes_on (drop (i + 1) start) (drop (i + 1) path)) differ) ∙ c.loop-i.invariant
 
 pub loop-i-preserved : goal.loop-i-preserved
@@ -26,7 +26,7 @@ loop-i-preserved c =
     let start = c.args.start.now in
     let path = c.args.path.now in
     let i = c.loop-i.i in
-    let agree = eq-eqb (get_or start i 0) (lower (get_or path i 0)) (c.if-start-i.false ∙ c.lower-byte.ensures) in
+    let agree = eq-eqb (get_or start i 0) (lower (get_or path i 0)) (c.if-start-i.false ∙ c.lower_byte.ensures) in
     sym (goes_one start path i (omega arith) (omega arith) ∙ ap (λ b. b && goes_on (drop (i + 1) start) (drop (i + 1) path)) agree) ∙ c.loop-i.invariant
 
 pub returns-then-path-n : goal.returns-then-path-n

@@ -27,4 +27,4 @@ loop-word-preserved c =
     ap (λ b. b || among method (split 44 more)) c.if-eq-2.ensures ∙ sym (method_next method c.loop-word.rest.now c.in-Some.word.now more c.in-Some.ensures) ∙ c.loop-word.invariant
 
 pub returns : goal.returns
-returns c = c.eq-2.ensures ∙ sym (method_last c.args.method.now c.loop-word.rest.now c.in-default.ensures) ∙ c.loop-word.invariant
+returns c = c.eq-2.ensures ∙ sym (method_last c.args.method.now c.loop-word.rest.now c.in_default.ensures) ∙ c.loop-word.invariant
