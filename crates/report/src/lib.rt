@@ -1,5 +1,7 @@
 // What is found in a client's bytes, told as lines of text. Text grows at its end, part by part; where memory is wanting, it is cut back to what
 // it was.
+#![tactic(auto)]
+
 ghost use Rattle.std.specs.Prelude.{◌≡◌, ◌<◌, map};
 ghost use Rattle.text.specs.Numerals.{digit_byte};
 ghost use Rattle.message.specs.Fields.{line_of, field_lines};

@@ -1,4 +1,6 @@
 // What the reading of requests means, as theorems. Each is a function whose contract is the theorem.
+#![tactic(auto)]
+
 ghost use Rattle.request_laws.specs.Laws.{CutFree, Stays, ReadIffSpelled, CanonicalAgain, LetPass};
 
 pub mod fault;

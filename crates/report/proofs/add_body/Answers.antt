@@ -13,15 +13,15 @@ one_line body t e =
     ap (λ u. codes "  body " ++ ((u ++ body_hex body) ++ (10 ∷ []))) (append-nil t) ∙ ap (λ u. codes "  body " ++ u) (append_assoc t (body_hex body) (10 ∷ []))
     ∙ ap (λ u. codes "  body " ++ (u ++ (body_hex body ++ (10 ∷ [])))) e
 
-pub returns-in-err-add-bytes : goal.returns-in-err-add-bytes
-returns-in-err-add-bytes c =
-    added_not c.from-residual-in-err-add-bytes.ensures.0
-    (begins_more (vec_items c.args.text.now) (joined (codes "  body " ∷ c.write-number-length.result.now ∷ [])) _ _ c.in-ok-add.ensures.cases c.in-err-add-bytes.ensures.cases)
+pub returns-in_err-add_bytes : goal.returns-in_err-add_bytes
+returns-in_err-add_bytes c =
+    added_not c.from_residual-in_err-add_bytes.ensures.0
+    (begins_more (vec_items c.args.text.now) (joined (codes "  body " ∷ c.write_number-length.result.now ∷ [])) _ _ c.in_ok-add.ensures.cases c.in_err-add_bytes.ensures.cases)
 
 pub returns : goal.returns
 returns c =
     let body = c.args.request.now.body.now in
     let xs = vec_items c.args.text.now in
-    let length_part = joined (codes "  body " ∷ c.write-number-length.result.now ∷ []) in
-    added_as (one_line body _ c.write-number-length.ensures ∙ sym (cond-true _ _ _ (sym c.if-not-carries-body.ensures)))
-    (added_last (length_part ++ body_hex body) _ xs _ _ (grown_more xs _ _ length_part (body_hex body) refl c.in-ok-add.ensures.cases c.in-ok-add-bytes.ensures.cases) c.add-2.ensures)
+    let length_part = joined (codes "  body " ∷ c.write_number-length.result.now ∷ []) in
+    added_as (one_line body _ c.write_number-length.ensures ∙ sym (cond-true _ _ _ (sym c.if-not-carries_body.ensures)))
+    (added_last (length_part ++ body_hex body) _ xs _ _ (grown_more xs _ _ length_part (body_hex body) refl c.in_ok-add.ensures.cases c.in_ok-add_bytes.ensures.cases) c.add-2.ensures)

@@ -14,4 +14,4 @@ unfolding joined
 one_line w n p e f = ap (λ t. codes "fault " ++ (t ++ (codes " at " ++ (p ++ (10 ∷ []))))) e ∙ ap (λ t. codes "fault " ++ (decimal (number_of w.fault) ++ (codes " at " ++ (t ++ (10 ∷ []))))) f
 
 pub returns : goal.returns
-returns c = added_as (one_line c.args.flaw _ _ (c.write-number-number.ensures ∙ ap decimal (c.from.ensures ∙ c.number.ensures)) c.write-number-place.ensures) c.add.ensures
+returns c = added_as (one_line c.args.flaw _ _ (c.write_number-number.ensures ∙ ap decimal (c.from.ensures ∙ c.number.ensures)) c.write_number-place.ensures) c.add.ensures

@@ -11,10 +11,10 @@ one_line : (l : Text) → (joined (codes "  " ∷ []) ++ l) ++ joined (codes "\n
 unfolding joined
 one_line l = refl
 
-pub returns-in-err-add-line : goal.returns-in-err-add-line
-returns-in-err-add-line c =
-    added_not c.from-residual-in-err-add-line.ensures.0
-    (begins_more (vec_items c.args.text.now) (joined (codes "  " ∷ [])) _ _ c.in-ok-add.ensures.cases c.in-err-add-line.ensures.cases)
+pub returns-in_err-add_line : goal.returns-in_err-add_line
+returns-in_err-add_line c =
+    added_not c.from_residual-in_err-add_line.ensures.0
+    (begins_more (vec_items c.args.text.now) (joined (codes "  " ∷ [])) _ _ c.in_ok-add.ensures.cases c.in_err-add_line.ensures.cases)
 
 pub returns : goal.returns
 returns c =
@@ -22,4 +22,4 @@ returns c =
     let xs = vec_items c.args.text.now in
     let two = joined (codes "  " ∷ []) in
     added_as (one_line l)
-    (added_last (two ++ l) _ xs _ _ (grown_more xs _ _ two l refl c.in-ok-add.ensures.cases c.in-ok-add-line.ensures.cases) c.add-2.ensures)
+    (added_last (two ++ l) _ xs _ _ (grown_more xs _ _ two l refl c.in_ok-add.ensures.cases c.in_ok-add_line.ensures.cases) c.add-2.ensures)

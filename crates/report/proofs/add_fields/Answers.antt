@@ -10,15 +10,15 @@ pub loop-field-init : goal.loop-field-init
 unfolding indented field_lines
 loop-field-init c = sym (append-nil (vec_items c.args.text.now))
 
-pub returns-in-err-add-field : goal.returns-in-err-add-field
-returns-in-err-add-field c =
+pub returns-in_err-add_field : goal.returns-in_err-add_field
+returns-in_err-add_field c =
     let so_far = indented (field_lines (view_sent_fields (take c.loop-field.field-index c.args.fields.now))) in
-    added_not c.from-residual.ensures.0 (begins_more (vec_items c.args.text.now) so_far _ _ c.loop-field.invariant c.in-err-add-field.ensures.cases)
+    added_not c.from_residual.ensures.0 (begins_more (vec_items c.args.text.now) so_far _ _ c.loop-field.invariant c.in_err-add_field.ensures.cases)
 
 pub loop-field-preserved : goal.loop-field-preserved
 loop-field-preserved c =
     let so_far = indented (field_lines (view_sent_fields (take c.loop-field.field-index c.args.fields.now))) in
-    grown_more (vec_items c.args.text.now) _ _ so_far _ (fields_more c.args.fields.now c.loop-field.field-index _ c.loop-field-test.true) c.loop-field.invariant c.in-ok-add-field.ensures.cases
+    grown_more (vec_items c.args.text.now) _ _ so_far _ (fields_more c.args.fields.now c.loop-field.field-index _ c.loop-field-test.true) c.loop-field.invariant c.in_ok-add_field.ensures.cases
 
 pub returns : goal.returns
 returns c =

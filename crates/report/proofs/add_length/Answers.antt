@@ -14,4 +14,4 @@ unfolding joined
 one_line body t e = ap (λ u. indented_line (line_of record { name = codes "content-length"; value = u })) e
 
 pub returns : goal.returns
-returns c = added_as (one_line c.args.request.now.body.now _ c.write-number-length.ensures ∙ sym (cond-true _ _ _ (sym c.if-not-carries-body.ensures))) c.add.ensures
+returns c = added_as (one_line c.args.request.now.body.now _ c.write_number-length.ensures ∙ sym (cond-true _ _ _ (sym c.if-not-carries_body.ensures))) c.add.ensures

@@ -16,6 +16,6 @@ all_lines server q t e = ap (λ u. codes "pass " ++ u) (append_assoc t (10 ∷ [
 pub returns : goal.returns
 returns c =
     let q = view_sent_request c.args.request.now in
-    let number = c.write-number-number.result.now in
-    added_as (all_lines c.args.server q number (c.write-number-number.ensures ∙ ap decimal c.saturating-add.ensures))
-    (added_last (joined (codes "pass " ∷ number ∷ codes "\n" ∷ [])) (request_lines q) (vec_items c.args.text.now) _ _ c.in-ok-add.ensures.cases c.add-request.ensures)
+    let number = c.write_number-number.result.now in
+    added_as (all_lines c.args.server q number (c.write_number-number.ensures ∙ ap decimal c.saturating_add.ensures))
+    (added_last (joined (codes "pass " ∷ number ∷ codes "\n" ∷ [])) (request_lines q) (vec_items c.args.text.now) _ _ c.in_ok-add.ensures.cases c.add_request.ensures)

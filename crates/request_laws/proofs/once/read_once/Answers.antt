@@ -9,10 +9,10 @@ returns c =
     let names = map (λ x. x.now) c.args.servers.now in
     let memory = c.args.memory.now in
     let bytes = c.args.bytes.now in
-    let fed = c.in-ok-fed.fed in
+    let fed = c.in_ok-fed.fed in
     let room = length c.args.fields.now in
     let counted : length bytes < 2 ^ 64 = omega arith in
     let start = c.new.ensures in
-    let told = ap (λ r. fed_of names r memory bytes) (sym start) ∙ sym c.in-ok-fed.ensures.told in
-    let held = c.in-ok-fed.ensures.held ∙ ap (λ r. held_by names r memory bytes) start in
+    let told = ap (λ r. fed_of names r memory bytes) (sym start) ∙ sym c.in_ok-fed.ensures.told in
+    let held = c.in_ok-fed.ensures.held ∙ ap (λ r. held_by names r memory bytes) start in
     explained names memory bytes room fed _ counted told (c.found.ensures ∙ ap (found_with room fed.reading) held)
