@@ -12,4 +12,4 @@ spelled m letters out few l is =
 pub returns : goal.returns
 returns c =
     let m = c.args.method.now in
-    (c.if-method-len-gt16.false, ap (λ t. record { client = c.args.client; number = c.args.number; method = t }) (spelled m (replicate 16 0) c.put.new.out c.if-method-len-gt16.false refl c.put.ensures.holds))
+    (c.if-method_len-gt16.false, ap (λ t. record { client = c.args.client; number = c.args.number; method = t }) (spelled m (replicate 16 0) c.put.new.out c.if-method_len-gt16.false refl c.put.ensures.holds))

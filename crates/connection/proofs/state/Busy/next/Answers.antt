@@ -3,8 +3,8 @@ use Rattle.connection.proofs.state.Busy.next.Goals as goal
 pub returns-then-memory-ne-MEMORY : goal.returns-then-memory-ne-MEMORY
 returns-then-memory-ne-MEMORY g c = ?
 
-pub returns-then-is-empty : goal.returns-then-is-empty
-returns-then-is-empty g c = ?
+pub returns-then-is_empty : goal.returns-then-is_empty
+returns-then-is_empty g c = ?
 
 pub returns-in-More : goal.returns-in-More
 returns-in-More g c = ?
