@@ -1,10 +1,9 @@
 -- How the verdict on pieces follows from the piece that is cut off first.
-use Rattle.std.proofs.Common.{◌≡◌, ℕ, zero, suc, ◌+◌, ◌-◌, ◌<◌, cond, List, [], ◌∷◌, Some, None, Ok, Err, Option, Result, sym, refl, ap, ◌∙◌, arith}
+use Rattle.std.proofs.Common.{◌≡◌, ℕ, zero, suc, ◌-◌, ◌<◌, cond, List, [], ◌∷◌, Some, None, Ok, Err, Option, sym, refl, ap, ◌∙◌, arith}
 use Rattle.text.specs.Bytes.{Text}
 use Rattle.text.specs.Marks.{cut_at, split}
 use Rattle.script.specs.Words.{good_word}
 use Rattle.script.specs.Series.{word_of, mark_of, wrong_of, too_many_of, judged}
-use Rattle.script.specs.declared.problem.Problem.{Problem}
 use Rattle.script.specs.declared.series.Series.{Series}
 use Rattle.text.proofs.Marking.{pieced, split_cut}
 

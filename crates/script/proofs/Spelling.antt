@@ -1,5 +1,5 @@
 -- How one byte of a spelled text leads on, and what a text spells at its end.
-use Rattle.std.proofs.Common.{◌≡◌, ℕ, ◌+◌, ◌<◌, ◌≤◌, Bool, true, false, cond, List, [], ◌∷◌, ◌++◌, length, get_or, drop, is_some, Some, None, Option, sym, refl, ap, ◌∙◌, append_assoc}
+use Rattle.std.proofs.Common.{◌≡◌, ℕ, ◌+◌, ◌<◌, ◌≤◌, Bool, true, false, cond, [], ◌∷◌, ◌++◌, length, get_or, drop, is_some, Some, None, Option, sym, refl, ap, ◌∙◌, append_assoc}
 use Rattle.std.specs.Option.{option_map}
 use Rattle.std.proofs.lemmas.List.{append-nil, at_drop_more, at_drop_all}
 use Rattle.text.specs.Bytes.{Text}
@@ -7,7 +7,6 @@ use Rattle.script.specs.Payloads.{move_of, moved, ends, spelled_from, start_of, 
 use Rattle.script.specs.declared.payload.Payload.{Payload}
 use Rattle.script.specs.declared.payload.Mode.{Mode}
 use Rattle.script.specs.declared.payload.Move.{Move}
-use Rattle.script.specs.declared.payload.Move.TheVariants.{To, Put, Bad}
 
 pub spelled_one : (m : Mode) (t : Text) (i : ℕ) (v : Move) → i < length t → v ≡ move_of m (get_or t i 0) → spelled_from m (drop i t) ≡ moved v (λ next. spelled_from next (drop (i + 1) t))
 unfolding spelled_from

@@ -1,5 +1,5 @@
 -- The bytes that an event's last word spells, as hexadecimal digits or as text in quotes.
-use Rattle.std.specs.Prelude.{◌≡◌, ℕ, ◌+◌, ◌*◌, ◌<◌, Bool, true, false, cond, ◌⊎◌, List, [], ◌∷◌, length, Some, None, Ok, Err, codes, Option, Result, MatchResult, ◌==◌}
+use Rattle.std.specs.Prelude.{◌≡◌, ℕ, ◌+◌, ◌*◌, ◌<◌, Bool, true, false, cond, ◌⊎◌, [], ◌∷◌, length, Some, None, Ok, Err, codes, Option, Result, MatchResult, ◌==◌}
 use Rattle.std.specs.Option.{option_map, unwrap_or, ok_or}
 use Rattle.text.specs.Bytes.{Text, between}
 use Rattle.text.specs.Numerals.{digit_value, on_digit}

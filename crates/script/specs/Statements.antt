@@ -1,5 +1,5 @@
 -- The grammar of a script's line: what each line says, or what is wrong with it.
-use Rattle.std.specs.Prelude.{◌≡◌, ℕ, ◌+◌, ◌*◌, Bool, true, false, cond, ◌&&◌, List, [], ◌∷◌, is_some, Some, None, Ok, Err, codes, Option, Result, ◌==◌, nat_le}
+use Rattle.std.specs.Prelude.{◌≡◌, ℕ, ◌+◌, ◌*◌, Bool, true, cond, ◌&&◌, List, [], ◌∷◌, is_some, Some, None, Ok, Err, codes, Option, Result, ◌==◌, nat_le}
 use Rattle.text.specs.Bytes.{Text}
 use Rattle.text.specs.Numerals.{digit_value, on_digit}
 use Rattle.text.specs.declared.numeral.Base.TheVariants.{Decimal}

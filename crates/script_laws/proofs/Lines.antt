@@ -19,7 +19,7 @@ use Rattle.script.specs.declared.statement.Verdict.TheVariants.{Allow, Deny}
 use Rattle.script.specs.declared.word.Word.TheVariants.{Name}
 use Rattle.script.specs.declared.statement.Statement.{Statement}
 use Rattle.script_laws.specs.Grammar.{MethodsWord, PathWord, BytesWord, verdict_word, LineSays, empty, comment, a_server, a_rule, from_client, from_server, ReadIffSays}
-use Rattle.script_laws.proofs.Given.{made_then, on-cut, on-number}
+use Rattle.script_laws.proofs.Given.{made_then, on_cut_so, on_number_so}
 use Rattle.script_laws.proofs.Words.{on_rest_so, cut_joins, cut_before}
 use Rattle.script_laws.proofs.Rules.{methods_made, methods_read, methods_close, parts_made, parts_read}
 use Rattle.script_laws.proofs.Numbers.{Number, number_made, number_read}
@@ -32,7 +32,7 @@ server_made t = cond_both (good_word Name t) (Ok (server t)) (Err problem.Server
 rule_made : (v : Verdict) (t : Text) → IfOk (rule_of v t) (LineSays (verdict_word v ++ t))
 rule_made v t =
     let P : Says → Type 0 = LineSays (verdict_word v ++ t) in
-    on-cut (λ a b. t ≡ a ++ (32 ∷ b)) P (cut_at 32 t) _ problem.RuleWords
+    on_cut_so (λ a b. t ≡ a ++ (32 ∷ b)) P (cut_at 32 t) _ problem.RuleWords
     (λ a b e. made_then (λ ms. MethodsWord ms a) P (methods_of a) _ (λ ms m. made_then (λ ps. PathWord ps b) P (parts_of b) _ (λ ps p. rw e (a_rule v m p)) (parts_made b)) (methods_made a))
     (cut_joins 32 t)
 
@@ -48,8 +48,8 @@ module _ (most : ℕ) (from : ℕ → Sender) (fault : Problem) (few : most ≤ 
   event_made : (w : Text) → ((n : ℕ) (bs u : Text) → 1 ≤ n → n ≤ most → BytesWord bs u → LineSays (w ++ (decimal n ++ (32 ∷ u))) (event (from n) bs)) → (t : Text) → IfOk (event_from most from fault t) (LineSays (w ++ t))
   event_made w says t =
       let P : Says → Type 0 = LineSays (w ++ t) in
-      on-cut (λ a b. t ≡ a ++ (32 ∷ b)) P (cut_at 32 t) _ problem.EventWords
-      (λ a b e. on-number (Number most a) P (number_in most a) _ fault (λ n h. made_then (λ bs. BytesWord bs b) P (payload_of b) _ (λ bs k. rw (e, h.2) (says n bs b h.0 h.1 k)) (bytes_made b)) (number_made most few a))
+      on_cut_so (λ a b. t ≡ a ++ (32 ∷ b)) P (cut_at 32 t) _ problem.EventWords
+      (λ a b e. on_number_so (Number most a) P (number_in most a) _ fault (λ n h. made_then (λ bs. BytesWord bs b) P (payload_of b) _ (λ bs k. rw (e, h.2) (says n bs b h.0 h.1 k)) (bytes_made b)) (number_made most few a))
       (cut_joins 32 t)
 
   event_read : (n : ℕ) (bs u : Text) → 1 ≤ n → n ≤ most → BytesWord bs u → event_from most from fault (decimal n ++ (32 ∷ u)) ≡ Ok (event (from n) bs)

@@ -7,7 +7,7 @@ use Rattle.text.specs.Numerals.{digit_byte, digits, numeral, decimal, digit_valu
 use Rattle.text.specs.declared.numeral.Base.TheVariants.{Decimal}
 use Rattle.text_laws.proofs.Digits.{byte_value}
 use Rattle.script.specs.Statements.{ranged, number_in}
-use Rattle.script_laws.proofs.Given.{Gives, on-digit}
+use Rattle.script_laws.proofs.Given.{Gives, on_digit_so}
 use Rattle.script_laws.proofs.Words.{other}
 
 -- a digit and what it is worth
@@ -44,13 +44,13 @@ in_range P least most n f = cond_both (leb least n && leb n most) (Some n) None 
 pub number_made : (most : ℕ) → most ≤ 16 → (t : Text) → Gives (Number most t) (number_in most t)
 number_made most few [] = tt
 number_made most few (a ∷ []) =
-    on-digit (Number most (a ∷ [])) (digit_value Decimal a) _ (λ n e.
+    on_digit_so (Number most (a ∷ [])) (digit_value Decimal a) _ (λ n e.
     let d = digit_made a n e in
     in_range (Number most (a ∷ [])) 1 most n (λ low high. (low, high, ap (λ c. c ∷ []) d.1 ∙ sym (decimal_one n d.0))))
 number_made most few (a ∷ b ∷ []) =
     let P = Number most (a ∷ b ∷ []) in
-    on-digit P (digit_value Decimal a) _ (λ m e.
-    on-digit P (digit_value Decimal b) _ (λ n f.
+    on_digit_so P (digit_value Decimal a) _ (λ m e.
+    on_digit_so P (digit_value Decimal b) _ (λ n f.
     in_range P 10 most (m * 10 + n) (λ low high.
     let d = digit_made a m e in
     let c = digit_made b n f in

@@ -1,7 +1,7 @@
 -- The methods and the path of a rule are read as the grammar says.
 use Rattle.std.proofs.Common.{◌≡◌, ℕ, ◌≤◌, false, T, eqb, List, [], ◌∷◌, ◌++◌, length, IfOk, None, Ok, Err, codes, refl, ◌∙◌, arith}
-use Rattle.std.specs.List.{AllByRecursion as All}
-use Rattle.std.proofs.lemmas.List.Elements as elements
+use Rattle.std.specs.List.{AllByRecursion}
+use Rattle.std.proofs.lemmas.List.Elements.{All-from_recursion, recursion_from_All, All-weaker}
 use Rattle.std.proofs.lemmas.Result.{IfOk-weaker}
 use Rattle.text.specs.Bytes.{Text, all}
 use Rattle.text.proofs.Passing.{is_false, and_l, and_r, differs, all_weaker}
@@ -17,10 +17,12 @@ use Rattle.script_laws.specs.Grammar.{joined_by, MethodsWord, no_method, some_me
 use Rattle.script_laws.proofs.Words.{on_rest_so, other, join_split, split_joined, all_joined, Good, judged_made, judged_good}
 
 -- good words lack what they may not be made of
-lack : (w : Word) (m : ℕ) → allows w m ≡ false → (ts : List Text) → Good w ts → All (λ t. T (all (other m) t)) ts
+lack : (w : Word) (m : ℕ) → allows w m ≡ false → (ts : List Text) → Good w ts → AllByRecursion (λ t. T (all (other m) t)) ts
 lack w m e ts h =
-    elements.all_weaker (λ t. T (good_word w t)) (λ t. T (all (other m) t))
-    (λ t g. all_weaker (allows w) (other m) (λ c k. rw (differs (allows w) m c e k) tt) t (and_r (fits w (length t)) (all (allows w) t) g)) ts h
+    let P : Text → Type 0 = λ t. T (good_word w t) in
+    let Q : Text → Type 0 = λ t. T (all (other m) t) in
+    let each : (t : Text) → P t → Q t = λ t g. all_weaker (allows w) (other m) (λ c k. rw (differs (allows w) m c e k) tt) t (and_r (fits w (length t)) (all (allows w) t) g) in
+    recursion_from_All Q ts (All-weaker P Q each ts (All-from_recursion P ts h))
 
 -- the pieces of a series
 abbrev Pieces : Series → Text → List Text → Type 0

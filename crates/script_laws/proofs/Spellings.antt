@@ -13,7 +13,7 @@ use Rattle.script.specs.Payloads.{hex_byte, moved, put_of, spelled_from, spelled
 use Rattle.script.specs.declared.payload.Payload.TheVariants.{Hex, Quoted}
 use Rattle.script.specs.declared.problem.Problem.TheVariants as problem
 use Rattle.script_laws.specs.Grammar.{Pair, HexWord, last_pair, next_pair, Escape, cr, lf, tab, backslash, quote, QuotedText, closed, plain, escaped, coded, BytesWord, in_digits, in_quotes}
-use Rattle.script_laws.proofs.Given.{Gives, gives-mapped, on-digit, made-or}
+use Rattle.script_laws.proofs.Given.{Gives, gives_mapped, on_digit_so, made_or}
 use Rattle.script_laws.proofs.Words.{on_rest_so}
 
 -- a hexadecimal digit is worth less than sixteen
@@ -23,8 +23,8 @@ small c = grind (arith, nat_tests)
 pair_made : (x y : ℕ) → Gives (λ b. Pair b x y) (hex_byte x y)
 pair_made x y =
     let P : ℕ → Type 0 = λ b. Pair b x y in
-    on-digit P (digit_value Hexadecimal x) _ (λ h e.
-    on-digit P (digit_value Hexadecimal y) (λ l. Some (h * 16 + l)) (λ l f. record { high = h; low = l; first = sym (small x) ∙ e; second = sym (small y) ∙ f; byte = refl }))
+    on_digit_so P (digit_value Hexadecimal x) _ (λ h e.
+    on_digit_so P (digit_value Hexadecimal y) (λ l. Some (h * 16 + l)) (λ l f. record { high = h; low = l; first = sym (small x) ∙ e; second = sym (small y) ∙ f; byte = refl }))
 
 pair_read : (b x y : ℕ) → Pair b x y → hex_byte x y ≡ Some b
 pair_read b x y p = rw (small x, small y, p.first, p.second, p.byte)
@@ -58,7 +58,7 @@ quoted t = spelled (Quoted (held t))
 -- a byte put in front of what is spelled next
 put : (P : ℕ → Type 0) (Q R : Text → Type 0) (o : Option ℕ) (next : _) (t : Text) → ((b : ℕ) (bs : Text) → P b → Q bs → R (b ∷ bs)) → Gives P o → Gives Q (spelled_from next t) → Gives R (moved (put_of o next) (λ m. spelled_from m t))
 put P Q R None next t f g h = tt
-put P Q R (Some b) next t f g h = gives-mapped Q R (λ bs. b ∷ bs) (spelled_from next t) (λ bs k. f b bs g k) h
+put P Q R (Some b) next t f g h = gives_mapped Q R (λ bs. b ∷ bs) (spelled_from next t) (λ bs k. f b bs g k) h
 
 hex_made : (t : Text) → Gives (λ bs. HexWord bs t) (hex t)
 unfolding spelled_from
@@ -99,7 +99,7 @@ quoted_made whole (c ∷ t) =
     let P : _ → Type 0 = λ v. Gives (Quotes (c ∷ t)) (moved v (λ m. spelled_from m t)) in
     cond_both (eqb c 34) _ _ P (λ e. rw (eqb-true c 34 e) (quoted_made end t)) (λ e.
     cond_both (eqb c 92) _ _ P (λ f. rw (eqb-true c 92 f) (quoted_made slash t)) (λ f.
-    cond_both (between 32 126 c) _ _ P (λ g. gives-mapped (Quotes t) (Quotes (c ∷ t)) (λ bs. c ∷ bs) (quoted t) (λ bs h. plain (rw (e, f, g) tt) h) (quoted_made whole t)) (λ _. tt)))
+    cond_both (between 32 126 c) _ _ P (λ g. gives_mapped (Quotes t) (Quotes (c ∷ t)) (λ bs. c ∷ bs) (quoted t) (λ bs h. plain (rw (e, f, g) tt) h) (quoted_made whole t)) (λ _. tt)))
 quoted_made slash (c ∷ t) =
     cond_both (eqb c 120) _ _ (λ v. Gives (Quotes (92 ∷ c ∷ t)) (moved v (λ m. spelled_from m t))) (λ e. rw (eqb-true c 120 e) (quoted_made code t))
     (λ _. put (λ b. Escape b c) (Quotes t) (Quotes (92 ∷ c ∷ t)) (spec.escaped c) _ t (λ b bs e h. escaped e h) (escape_made c) (quoted_made whole t))
@@ -120,8 +120,8 @@ quoted_read bs t (coded {b} {x} {y} {bs = cs} {t = u} p q) = rw (pair_read b x y
 pub bytes_made : (t : Text) → IfOk (payload_of t) (λ bs. BytesWord bs t)
 bytes_made t =
     on_rest_so (λ bs. BytesWord bs t) (codes "\"") t (λ r. ok_or (quoted r) problem.QuotedText) (ok_or (hex t) problem.Hexadecimal)
-    (λ r e. made-or (Quotes r) (λ bs. BytesWord bs t) (quoted r) problem.QuotedText (λ bs h. rw e (in_quotes h)) (quoted_made whole r))
-    (made-or (λ bs. HexWord bs t) (λ bs. BytesWord bs t) (hex t) problem.Hexadecimal (λ bs h. in_digits h) (hex_made t))
+    (λ r e. made_or (Quotes r) (λ bs. BytesWord bs t) (quoted r) problem.QuotedText (λ bs h. rw e (in_quotes h)) (quoted_made whole r))
+    (made_or (λ bs. HexWord bs t) (λ bs. BytesWord bs t) (hex t) problem.Hexadecimal (λ bs h. in_digits h) (hex_made t))
 
 -- digits do not begin with a quote
 not_quote : (b x y : ℕ) → Pair b x y → eqb x 34 ≡ false

@@ -1,7 +1,7 @@
 -- Words cut off a line, and pieces that a mark separates, are those that give the line when they are joined.
 use Rattle.std.proofs.Common.{◌≡◌, ℕ, zero, suc, ◌≤◌, Bool, not, T, eqb, List, [], ◌∷◌, ◌++◌, length, IfOk, Some, None, Ok, Err, Result, sym, refl, ap, ◌∙◌, ap₂, arith}
 use Rattle.std.specs.Option.{option_map}
-use Rattle.std.specs.List.{AllByRecursion as All}
+use Rattle.std.specs.List.{AllByRecursion}
 use Rattle.std.proofs.lemmas.Bool.{cond_both, eqb-true, eq-eqb}
 use Rattle.text.specs.Bytes.{Text, all}
 use Rattle.text.proofs.Passing.{is_true, is_false, and_i, and_l, and_r, all_append}
@@ -13,7 +13,7 @@ use Rattle.script.specs.declared.series.Series.{Series}
 use Rattle.script.specs.declared.word.Word.{Word}
 use Rattle.text.proofs.Marking.{split_cut, pieced, cut_at_so}
 use Rattle.script_laws.specs.Grammar.{joined_by}
-use Rattle.script_laws.proofs.Given.{Gives, gives-mapped}
+use Rattle.script_laws.proofs.Given.{Gives, gives_mapped}
 
 -- a word in front, and the rest
 pub on_rest_so : {X : Type 0} (P : X → Type 0) (w t : Text) (f : Text → Result X Problem) (x : Result X Problem) → ((r : Text) → t ≡ w ++ r → IfOk (f r) P) → IfOk x P → IfOk (on_rest (rest_after w t) f x) P
@@ -28,7 +28,7 @@ unfolding cut_at
 cut_joins m [] = tt
 cut_joins m (c ∷ cs) =
     cond_both (eqb c m) (Some ([], cs)) (option_map (λ p. (c ∷ p.0, p.1)) (cut_at m cs)) (Gives (λ p. c ∷ cs ≡ p.0 ++ (m ∷ p.1))) (λ e. ap (λ d. d ∷ cs) (eqb-true c m e))
-    (λ _. gives-mapped (λ p. cs ≡ p.0 ++ (m ∷ p.1)) (λ p. c ∷ cs ≡ p.0 ++ (m ∷ p.1)) (λ p. (c ∷ p.0, p.1)) (cut_at m cs) (λ p e. ap (λ u. c ∷ u) e) (cut_joins m cs))
+    (λ _. gives_mapped (λ p. cs ≡ p.0 ++ (m ∷ p.1)) (λ p. c ∷ cs ≡ p.0 ++ (m ∷ p.1)) (λ p. (c ∷ p.0, p.1)) (cut_at m cs) (λ p e. ap (λ u. c ∷ u) e) (cut_joins m cs))
 
 -- a byte that is no mark
 abbrev pub other : ℕ → ℕ → Bool
@@ -68,7 +68,7 @@ join_split m (c ∷ cs) =
     (λ _. (ap (λ ds. c ∷ ds) h.0 ∙ sym (joined_on m c (split m cs)), some_on c (split m cs)))
 
 -- pieces without the mark, joined and taken apart again
-pub split_joined : (m : ℕ) (ts : List Text) → All (λ t. T (all (other m) t)) ts → 1 ≤ length ts → split m (joined_by m ts) ≡ ts
+pub split_joined : (m : ℕ) (ts : List Text) → AllByRecursion (λ t. T (all (other m) t)) ts → 1 ≤ length ts → split m (joined_by m ts) ≡ ts
 unfolding joined_by
 split_joined m [] h some = absurd (omega arith)
 split_joined m (t ∷ []) h some = split_cut m t ∙ ap (pieced m t) (cut_none m t h.0)
@@ -76,7 +76,7 @@ split_joined m (t ∷ u ∷ ts) h some =
     let rest = joined_by m (u ∷ ts) in
     split_cut m (t ++ (m ∷ rest)) ∙ ap (pieced m (t ++ (m ∷ rest))) (cut_before m t rest h.0) ∙ ap (λ us. t ∷ us) (split_joined m (u ∷ ts) h.1 (omega arith))
 
-pub all_joined : (p : ℕ → Bool) (m : ℕ) (ts : List Text) → T (p m) → All (λ t. T (all p t)) ts → T (all p (joined_by m ts))
+pub all_joined : (p : ℕ → Bool) (m : ℕ) (ts : List Text) → T (p m) → AllByRecursion (λ t. T (all p t)) ts → T (all p (joined_by m ts))
 unfolding all joined_by
 all_joined p m [] g h = tt
 all_joined p m (t ∷ []) g h = h.0
@@ -84,7 +84,7 @@ all_joined p m (t ∷ u ∷ ts) g h = all_append p t (m ∷ joined_by m (u ∷ t
 
 -- pieces that pass are good and not too many
 abbrev pub Good : Word → List Text → Type 0
-Good w ts = All (λ t. T (good_word w t)) ts
+Good w ts = AllByRecursion (λ t. T (good_word w t)) ts
 
 pub judged_made : {X : Type 0} (s : Series) (x : X) (P : X → Type 0) (k : ℕ) (ts : List Text) → (Good (word_of s) ts → length ts ≤ k → P x) → IfOk (judged s x k ts) P
 unfolding judged

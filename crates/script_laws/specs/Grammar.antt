@@ -1,6 +1,6 @@
 -- The grammar of a script's line, as texts joined together: which lines there are, and what each says.
 use Rattle.std.specs.Prelude.{◌≡◌, ℕ, ◌+◌, ◌*◌, ◌≤◌, not, ◌&&◌, T, List, [], ◌∷◌, ◌++◌, length, Some, Ok, codes, ◌==◌}
-use Rattle.std.specs.List.{AllByRecursion as All}
+use Rattle.std.specs.List.{AllByRecursion}
 use Rattle.text.specs.Bytes.{Text, between}
 use Rattle.text.specs.Numerals.{decimal, hex_value}
 use Rattle.text_laws.specs.Laws.{Iff}
@@ -20,12 +20,12 @@ joined_by mark (t ∷ u ∷ ts) = t ++ (mark ∷ joined_by mark (u ∷ ts))
 -- `-` for no method, or 1 to 8 methods with commas between them
 pub data MethodsWord : List Text → Text → Type 0 where
   no_method : MethodsWord [] (codes "-")
-  some_methods : (ms : List Text) → All (λ m. T (good_word Method m)) ms → 1 ≤ length ms → length ms ≤ 8 → MethodsWord ms (joined_by 44 ms)
+  some_methods : (ms : List Text) → AllByRecursion (λ m. T (good_word Method m)) ms → 1 ≤ length ms → length ms ≤ 8 → MethodsWord ms (joined_by 44 ms)
 
 -- `/` for no part, or 1 to 16 parts, each after a slash
 pub data PathWord : List Text → Text → Type 0 where
   no_part : PathWord [] (codes "/")
-  some_parts : (ps : List Text) → All (λ p. T (good_word Part p)) ps → 1 ≤ length ps → length ps ≤ 16 → PathWord ps (47 ∷ joined_by 47 ps)
+  some_parts : (ps : List Text) → AllByRecursion (λ p. T (good_word Part p)) ps → 1 ≤ length ps → length ps ≤ 16 → PathWord ps (47 ∷ joined_by 47 ps)
 
 -- two hexadecimal digits, and the byte that they spell
 pub record Pair (b x y : ℕ) : Type 0 where

@@ -1,4 +1,6 @@
 // The grammar of a script's line, as texts joined together: a line is read as saying something exactly where the grammar says so.
+#![tactic(auto)]
+
 ghost use Rattle.std.specs.Result.{MatchResult};
 ghost use Rattle.script.specs.Statements.{Says, said_by};
 ghost use Rattle.script_laws.specs.Grammar.{LineSays, ReadIffSays};

@@ -1,4 +1,4 @@
-use Rattle.std.proofs.Common.{◌≡◌, ◌+◌, drop, is_some, sym, ap, ◌∙◌, arith}
+use Rattle.std.proofs.Common.{◌+◌, drop, is_some, sym, ap, ◌∙◌, arith}
 use Rattle.script.specs.Payloads.{spelled_from}
 use Rattle.script.proofs.Spelling.{spelled_one, spelled_end, spelled_is, some_mapped, some_end}
 use Rattle.script.proofs.payload.Payload.is_well_spelled.Goals as goal

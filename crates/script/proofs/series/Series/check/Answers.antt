@@ -1,10 +1,9 @@
-use Rattle.std.proofs.Common.{◌≡◌, ℕ, ◌+◌, ◌-◌, ◌<◌, ◌≤◌, cond, List, Some, None, Ok, Err, Result, sym, ap, ◌∙◌, arith}
+use Rattle.std.proofs.Common.{◌≡◌, ◌+◌, ◌-◌, ◌<◌, Err, sym, ap, ◌∙◌, arith}
 use native.Mathlib.Nat.{sub-zero}
 use Rattle.std.proofs.lemmas.Bool.{cond-true, cond-false}
-use Rattle.text.specs.Bytes.{Text}
 use Rattle.text.specs.Marks.{cut_at}
 use Rattle.script.specs.Words.{good_word}
-use Rattle.script.specs.Series.{word_of, mark_of, most_of, wrong_of, judged, pieces_in}
+use Rattle.script.specs.Series.{most_of, judged, pieces_in}
 use Rattle.script.proofs.Judging.{judged_last, judged_next, judged_over}
 use Rattle.script.proofs.series.Series.check.Goals as goal
 
@@ -17,7 +16,7 @@ returns-then-is c =
     let rest = c.loop.rest.now in
     let room : 0 < most_of s - c.loop.counter = omega arith in
     let good = ap (λ w. good_word w rest) (sym c.word.ensures) ∙ sym c.if-is.ensures in
-    sym c.loop.invariant ∙ judged_last s _ (most_of s - c.loop.counter) rest room (c.in-default.ensures ∙ ap (λ m. cut_at m rest) c.mark.ensures) ∙ cond-true _ _ _ good
+    sym c.loop.invariant ∙ judged_last s _ (most_of s - c.loop.counter) rest room (c.in_default.ensures ∙ ap (λ m. cut_at m rest) c.mark.ensures) ∙ cond-true _ _ _ good
 
 pub returns-else-is : goal.returns-else-is
 returns-else-is c =
@@ -25,7 +24,7 @@ returns-else-is c =
     let rest = c.loop.rest.now in
     let room : 0 < most_of s - c.loop.counter = omega arith in
     let bad = ap (λ w. good_word w rest) (sym c.word.ensures) ∙ sym c.if-is.ensures in
-    sym c.loop.invariant ∙ judged_last s _ (most_of s - c.loop.counter) rest room (c.in-default.ensures ∙ ap (λ m. cut_at m rest) c.mark.ensures) ∙ cond-false _ _ _ bad ∙ ap Err (sym c.wrong.ensures)
+    sym c.loop.invariant ∙ judged_last s _ (most_of s - c.loop.counter) rest room (c.in_default.ensures ∙ ap (λ m. cut_at m rest) c.mark.ensures) ∙ cond-false _ _ _ bad ∙ ap Err (sym c.wrong.ensures)
 
 pub returns-then-not-is : goal.returns-then-not-is
 returns-then-not-is c =
@@ -57,4 +56,4 @@ returns c =
     let x = pieces_in s c.args.t.now in
     let rest = c.loop.rest.now in
     let none : 0 ≡ most_of s - c.loop.counter = omega arith in
-    sym c.loop.invariant ∙ ap (λ k. judged s x k (pieces_in s rest)) (sym none) ∙ judged_over s x rest ∙ ap Err (sym c.too-many.ensures)
+    sym c.loop.invariant ∙ ap (λ k. judged s x k (pieces_in s rest)) (sym none) ∙ judged_over s x rest ∙ ap Err (sym c.too_many.ensures)

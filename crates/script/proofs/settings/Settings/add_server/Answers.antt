@@ -1,4 +1,4 @@
-use Rattle.std.proofs.Common.{◌≡◌, ◌<◌, ◌≤◌, [], ◌∷◌, ◌++◌, map, length, is_ok, Ok, vec_items, sym, refl, ap, ◌∙◌, inl, inr, arith}
+use Rattle.std.proofs.Common.{◌<◌, ◌≤◌, [], ◌∷◌, ◌++◌, map, length, is_ok, Ok, vec_items, sym, refl, ap, ◌∙◌, inl, inr, arith}
 use Rattle.std.proofs.lemmas.List.{map_push}
 use Rattle.std.proofs.lemmas.Result.{err_from_is_err_and}
 use Rattle.script.specs.Settings.{server_in}
@@ -19,23 +19,23 @@ returns-then-declares c =
     let few : length (map server_in (vec_items servers)) < 8 = omega arith in
     (refl, inl (servers_twice c.args.name.now (map server_in (vec_items servers)) few (sym c.if-declares.ensures)))
 
-pub returns-in-err-server : goal.returns-in-err-server
-returns-in-err-server c =
+pub returns-in_err-server : goal.returns-in_err-server
+returns-in_err-server c =
     let servers = c.args.self.now.servers in
     let long = length_mapped server_in (vec_items servers) servers.len servers.ok.0 in
     let few : length (map server_in (vec_items servers)) < 8 = omega arith in
-    let p = err_from_is_err_and c.from-residual.result c.from-residual.ensures.1 in
+    let p = err_from_is_err_and c.from_residual.result c.from_residual.ensures.1 in
     let can = ap is_ok (servers_room c.args.name.now (map server_in (vec_items servers)) few (sym c.if-declares.ensures)) in
-    rw (p.1, p.2) (refl, inr (c.in-err-server.ensures, refl, can))
+    rw (p.1, p.2) (refl, inr (c.in_err-server.ensures, refl, can))
 
-pub returns-in-err-push : goal.returns-in-err-push
-returns-in-err-push c =
+pub returns-in_err-push : goal.returns-in_err-push
+returns-in_err-push c =
     let servers = c.args.self.now.servers in
     let long = length_mapped server_in (vec_items servers) servers.len servers.ok.0 in
     let few : length (map server_in (vec_items servers)) < 8 = omega arith in
-    let p = err_from_is_err_and c.from-residual-in-err-push.result c.from-residual-in-err-push.ensures.1 in
+    let p = err_from_is_err_and c.from_residual-in_err-push.result c.from_residual-in_err-push.ensures.1 in
     let can = ap is_ok (servers_room c.args.name.now (map server_in (vec_items servers)) few (sym c.if-declares.ensures)) in
-    rw (p.1, p.2) (ap (map server_in) c.in-err-push.ensures.items, inr (refl, refl, can))
+    rw (p.1, p.2) (ap (map server_in) c.in_err-push.ensures.items, inr (refl, refl, can))
 
 pub returns : goal.returns
 returns c =
@@ -43,7 +43,7 @@ returns c =
     let long = length_mapped server_in (vec_items servers) servers.len servers.ok.0 in
     let few : length (map server_in (vec_items servers)) < 8 = omega arith in
     let xs = vec_items servers in
-    let s = c.in-ok-server.server in
-    let is = ap (λ n. holding n (server_in s).rules) c.in-ok-server.ensures.0 ∙ ap (holding c.args.name.now) c.in-ok-server.ensures.1 in
-    let added = ap (map server_in) c.in-ok-push.ensures.items ∙ map_push server_in xs s ∙ ap (λ x. map server_in xs ++ x ∷ []) is in
+    let s = c.in_ok-server.server in
+    let is = ap (λ n. holding n (server_in s).rules) c.in_ok-server.ensures.0 ∙ ap (holding c.args.name.now) c.in_ok-server.ensures.1 in
+    let added = ap (map server_in) c.in_ok-push.ensures.items ∙ map_push server_in xs s ∙ ap (λ x. map server_in xs ++ x ∷ []) is in
     servers_room c.args.name.now (map server_in xs) few (sym c.if-declares.ensures) ∙ ap Ok (sym added)

@@ -1,4 +1,4 @@
-use Rattle.std.proofs.Common.{◌≡◌, vec_items, sym, ◌∙◌}
+use Rattle.std.proofs.Common.{vec_items, sym, ◌∙◌}
 use Rattle.script.specs.Settings.{server_in}
 use Rattle.script.proofs.Adding.{length_mapped}
 use Rattle.script.proofs.settings.Settings.server_count.Goals as goal
