@@ -1,10 +1,13 @@
 // The gate as a program: a script comes on standard input, and each line is read and taken before the next one is looked at. One line
 // and one event are held at a time, in buffers that are used again, so that memory does not grow with the script.
+#![tactic(auto)]
+
 use script::problem::Problem;
 use script::progress::Script;
 use script::statement::Statement;
 use std::alloc::Global;
 use std::io::{BufRead, BufReader};
+use std::process::ExitCode;
 use std::{fmt, io};
 
 // Why a run ended before its script did.
@@ -63,10 +66,10 @@ fn run(rt: &HostRuntime) -> Result<(), Stop> {
     Ok(())
 }
 
-fn main(rt: HostRuntime) -> Result<(), Stop> {
-    let result = run(&rt);
-    if let Err(stop) = &result {
-        eprintln!(rt; "{stop}")?;
-    }
-    result
+fn main(rt: HostRuntime) -> ExitCode {
+    let Err(stop) = run(&rt) else {
+        return ExitCode::SUCCESS;
+    };
+    let _ = eprintln!(rt; "{stop}");
+    ExitCode::FAILURE
 }
