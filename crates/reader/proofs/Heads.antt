@@ -1,7 +1,7 @@
 -- A fair reader takes the lines of a head one by one up to the empty line, and waits where the head is cut short.
 use Rattle.std.proofs.Common.{◌≡◌, ℕ, zero, suc, ◌+◌, ◌-◌, ◌<◌, ◌≤◌, T, List, [], ◌∷◌, ◌++◌, length, take, refl, ap, ◌∙◌, inl, inr, arith}
 use lib.Seq.{take-append-add}
-use Rattle.std.specs.List.{AllByRecursion as All}
+use Rattle.std.specs.List.{AllByRecursion}
 use Rattle.std.proofs.lemmas.List.{append_assoc, length-append, length-take-le, take-append-le}
 use Rattle.std.proofs.lemmas.Bool.{cases_lt}
 use Rattle.text.specs.Bytes.{Text, all, clean, nonempty}
@@ -12,7 +12,7 @@ use Rattle.text.proofs.Passing.{not_end, all_take}
 
 -- lines that a head can have
 abbrev pub Lines : List Text → Type 0
-Lines ls = All (λ l. T (nonempty l) × T (clean l)) ls
+Lines ls = AllByRecursion (λ l. T (nonempty l) × T (clean l)) ls
 
 -- lines and the empty line, followed by s
 abbrev pub headed : List Text → Text → Text

@@ -1,6 +1,6 @@
 -- The parts of a canonical request are within the limits, and every line of it is plain: not empty, and without CR and LF.
 use Rattle.std.proofs.Common.{◌≡◌, ◌+◌, ◌<◌, ◌≤◌, Bool, true, false, cond, not, ◌&&◌, ◌||◌, T, eqb, leb, List, [], ◌∷◌, ◌++◌, length, refl, arith, le→leb, ltb→lt, leb→le}
-use Rattle.std.specs.List.{AllByRecursion as All}
+use Rattle.std.specs.List.{AllByRecursion}
 use Rattle.std.proofs.lemmas.Bool.Decides.{nat_tests}
 use Rattle.std.proofs.ByRecursion.{All-push}
 use Rattle.std.proofs.lemmas.List.{length-append}
@@ -54,7 +54,7 @@ pub record Plain (f : Field) : Type 0 where
   pub name : T (all lower_name_byte f.name)
   pub value : T (canonical_value f.value)
 
-pub canonical_plain : (fs : List Field) → T (canonical_fields fs) → All Plain fs
+pub canonical_plain : (fs : List Field) → T (canonical_fields fs) → AllByRecursion Plain fs
 unfolding canonical_fields
 canonical_plain [] h = tt
 canonical_plain (f ∷ fs) h =
@@ -90,9 +90,9 @@ by_body P q f g = by (carries_body q.method) f g
     by true f g = f tt
     by false f g = g tt
 
-sent_plain : (q : Req) → T (canonical_fields q.fields) → All Plain (sent_fields q)
+sent_plain : (q : Req) → T (canonical_fields q.fields) → AllByRecursion Plain (sent_fields q)
 sent_plain q h =
-    by_body (All Plain) q (λ b. All-push Plain q.fields (length_field q.body) (canonical_plain q.fields h) (length_plain q.body)) (λ b. canonical_plain q.fields h)
+    by_body (AllByRecursion Plain) q (λ b. All-push Plain q.fields (length_field q.body) (canonical_plain q.fields h) (length_plain q.body)) (λ b. canonical_plain q.fields h)
 
 -- a value has visible bytes and spaces
 tail_bytes : (t : Text) → T (value_tail t) → T (all value_byte t)
@@ -115,7 +115,7 @@ unfolding nonempty
 some_append [] t h = absurd h
 some_append (c ∷ s) t h = tt
 
-field_lines_so : (fs : List Field) → All Plain fs → Lines (field_lines fs)
+field_lines_so : (fs : List Field) → AllByRecursion Plain fs → Lines (field_lines fs)
 unfolding field_lines all
 field_lines_so [] h = tt
 field_lines_so (f ∷ fs) h =

@@ -1,7 +1,7 @@
 -- The strict reader is fair.
 use Rattle.std.proofs.Common.{◌≡◌, ℕ, suc, ◌+◌, ◌-◌, Bool, false, not, ◌&&◌, ◌||◌, T, eqb, List, [], ◌∷◌, ◌++◌, length, get_or, take, drop, Some, sym, refl, ap, ◌∙◌, arith}
 use lib.Seq.{take-length}
-use Rattle.std.specs.List.{prefix_len, suffix_len, AllByRecursion as All}
+use Rattle.std.specs.List.{prefix_len, suffix_len, AllByRecursion}
 use Rattle.std.proofs.ByRecursion.{All-push}
 use Rattle.std.proofs.lemmas.List.{append-nil, take_all}
 use Rattle.std.proofs.lemmas.List.Sums.{suffix_len-take_no}
@@ -96,7 +96,7 @@ field_read f p =
     ap field_of (cut_at_so 58 lower_name_byte refl f.name (32 ∷ f.value) p.name) ∙
     rw (is_true (nonempty f.name) p.some, is_true (all name_byte f.name) (all_weaker lower_name_byte name_byte name_byte_so f.name p.name), is_true (all value_byte f.value) (value_bytes f.value p.value), name_lowered f.name p.name, value_trimmed f.value p.value)
 
-fields_read : (fs : List Field) → All Plain fs → read_fields (field_lines fs) ≡ Many fs
+fields_read : (fs : List Field) → AllByRecursion Plain fs → read_fields (field_lines fs) ≡ Many fs
 unfolding read_fields field_lines
 fields_read [] h = refl
 fields_read (f ∷ fs) h = rw (field_read f h.0, fields_read fs h.1)

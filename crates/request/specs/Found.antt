@@ -4,7 +4,7 @@ use Rattle.text.specs.Bytes.{Text}
 use Rattle.message.specs.Faults.{flaw}
 use Rattle.message.specs.Fields.{Field}
 use Rattle.message.specs.Hops.{field_of, kept_of}
-use Rattle.message.specs.Sent.{Found as Fields, ended, more as moreFields, wrong, fields_in}
+use Rattle.message.specs.Sent.{Found as Fields, ended, more as more_fields, wrong, fields_in}
 use Rattle.message.specs.declared.fault.Fault.TheVariants.{TooLong}
 use Rattle.message.specs.declared.fault.Flaw.{Flaw}
 use Rattle.message.specs.declared.fault.Unfit.{Unfit}
@@ -39,7 +39,7 @@ request_in head end memory fs = parts_in head end memory (kept_of fs)
 
 abbrev pub with_fields : Head → ℕ → Text → Fields → Result Finding Unfit
 with_fields head end memory (ended fs len) = Ok (limited head.server head.len (request_in head end memory (map field_of fs)))
-with_fields head end memory moreFields = Err record {}
+with_fields head end memory more_fields = Err record {}
 with_fields head end memory (wrong w) = Err record {}
 
 -- the parts of a head lie in it, and a body that ends at the place end lies behind it in a memory of this size

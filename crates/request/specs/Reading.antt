@@ -1,7 +1,7 @@
 -- A client's bytes, read as they come: what a piece does to the small state and to the lent memory.
 use Rattle.std.specs.Prelude.{ℕ, ◌+◌, ◌-◌, Bool, true, cond, ◌&&◌, List, ◌++◌, length, take, drop, Some, None, Ok, Err, Option, Result, ◌==◌, nat_le, nat_lt}
 use Rattle.text.specs.Bytes.{Text}
-use Rattle.message.specs.Chunked.{fed_by as chunkFed, held_by as chunkHeld}
+use Rattle.message.specs.Chunked.{fed_by as chunk_fed, held_by as chunk_held}
 use Rattle.message.specs.Faults.{flaw}
 use Rattle.message.specs.declared.chunked.Chunk.{Chunk}
 use Rattle.message.specs.declared.chunked.Fed.{Fed as ChunkFed}
@@ -95,7 +95,7 @@ on_chunks head filled c memory held (Ok fed) = on_outcome head filled fed (take 
 -- a piece of a chunked body: the data goes to the free end of the memory
 abbrev pub chunks_step : Head → ℕ → Chunk → Text → Text → After
 chunks_step head filled c memory piece =
-    on_chunks head filled c memory (chunkHeld c (drop filled memory) piece) (chunkFed c (length (drop filled memory)) piece)
+    on_chunks head filled c memory (chunk_held c (drop filled memory) piece) (chunk_fed c (length (drop filled memory)) piece)
 
 abbrev pub due_step : Head → ℕ → Due → Text → Text → After
 due_step head filled (Length due) memory piece = length_step head filled due memory piece

@@ -1,6 +1,6 @@
 -- One element of a list, where it stands among the others; and names that are the same but for case.
 use Rattle.std.proofs.Common.{◌≡◌, ℕ, false, T, eqb, List, [], ◌∷◌, ◌++◌, map, refl, ap, ◌∙◌, ap₂, arith}
-use Rattle.std.specs.List.{AllByRecursion as All}
+use Rattle.std.specs.List.{AllByRecursion}
 use Rattle.std.proofs.lemmas.Bool.{eqb-true}
 use Rattle.text.specs.Bytes.{Text, lowered, same, same_no_case}
 use Rattle.text.proofs.Passing.{is_true, and_l, and_r}
@@ -28,7 +28,7 @@ origin h (x ∷ xs) (b ∷ bs) behind y e =
     record { front = x ∷ o.front; here = o.here; back = o.back; joined = ap (λ u. x ∷ u) o.joined; fronts = ap₂ (λ c cs. c ∷ cs) first o.fronts; is = o.is; backs = o.backs }
 
 -- the only one is the first, or another stands before it
-pub only_first : (P : Field → Type 0) (f : Field) (fs : List Field) → All P fs → Only P (f ∷ fs) f
+pub only_first : (P : Field → Type 0) (f : Field) (fs : List Field) → AllByRecursion P fs → Only P (f ∷ fs) f
 only_first P f fs h = record { before = []; behind = fs; others = (tt, h); joined = refl }
 
 pub only_later : (P : Field → Type 0) (f g : Field) (fs : List Field) → P g → Only P fs f → Only P (g ∷ fs) f

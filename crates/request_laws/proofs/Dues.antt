@@ -1,6 +1,6 @@
 -- What is due of a body is found exactly as the grammar says.
 use Rattle.std.proofs.Common.{◌≡◌, ℕ, ◌<◌, Bool, true, false, not, T, ltb, List, map, Some, None, Ok, codes, Option, sym, ap, ◌∙◌, arith}
-use Rattle.std.specs.List.{AllByRecursion as All}
+use Rattle.std.specs.List.{AllByRecursion}
 use Rattle.std.proofs.lemmas.Bool.{cond_both, ltb-true, lt-ltb}
 use Rattle.text.specs.Bytes.{Text, same_no_case}
 use Rattle.text.specs.Numerals.{number_of}
@@ -23,7 +23,7 @@ use Rattle.request_laws.proofs.Framing.{framing_none_read, framing_none_spelled,
 
 -- what is due of a body by the method and the fields; len: how long the head is
 pub data DueAs (m : Text) (fs : List Field) (len : ℕ) (due : Due) : Type 0 where
-  none : T (not (carries_body m)) → All Unframing fs → due ≡ Length 0 → DueAs m fs len due
+  none : T (not (carries_body m)) → AllByRecursion Unframing fs → due ≡ Length 0 → DueAs m fs len due
   sized : (f : Field) (n : ℕ) → T (carries_body m) → Only Unframing fs f → Named content_length f → number_of Decimal f.value ≡ Some n → n < body_limit → due ≡ Length n → DueAs m fs len due
   chunked : (f : Field) → T (carries_body m) → Only Unframing fs f → Named transfer_encoding f → T (same_no_case f.value (codes "chunked")) → due ≡ Chunks (fresh most_bytes len) → DueAs m fs len due
 

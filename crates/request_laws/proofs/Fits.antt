@@ -1,6 +1,6 @@
 -- Fields as lines may hold them, and what canonical form makes of them.
 use Rattle.std.proofs.Common.{◌≡◌, ℕ, ◌≤◌, Bool, true, false, not, ◌&&◌, ◌||◌, T, eqb, leb, List, [], ◌∷◌, ◌++◌, length, sym, refl, ap, append-nil, arith, le→leb, leb→le}
-use Rattle.std.specs.List.{AllByRecursion as All}
+use Rattle.std.specs.List.{AllByRecursion}
 use Rattle.std.proofs.lemmas.Bool.Decides.{nat_tests}
 use Rattle.text.specs.Bytes.{Text, lower, lowered, digit, name_byte, visible, blank, value_byte, all, among, nonempty}
 use Rattle.text.specs.Numerals.{decimal}
@@ -40,7 +40,7 @@ field_fit l f s =
     let bytes : T (all value_byte (t.front ++ (f.value ++ t.back))) = rw t.joined at s.bytes in
     record { some = s.named.0; short = s.named.1; name = s.named.2; value = all_front value_byte f.value t.back (all_behind value_byte t.front (f.value ++ t.back) bytes); bare = t.bare }
 
-pub lines_fit : (t : Text) (fs : List Field) → LinesSpelled t fs → All Fit fs
+pub lines_fit : (t : Text) (fs : List Field) → LinesSpelled t fs → AllByRecursion Fit fs
 lines_fit t fs none = tt
 lines_fit t fs (line l u {f} {fs = gs} s more) = (field_fit l f s, lines_fit u gs more)
 
@@ -56,7 +56,7 @@ fit_field f h =
       text = refl;
     }
 
-pub fit_lines : (fs : List Field) → All Fit fs → LinesSpelled (lines_of (field_lines fs)) fs
+pub fit_lines : (fs : List Field) → AllByRecursion Fit fs → LinesSpelled (lines_of (field_lines fs)) fs
 unfolding lines_of field_lines
 fit_lines [] h = none
 fit_lines (f ∷ fs) h = line (line_of f) (lines_of (field_lines fs)) (fit_field f h.0) (fit_lines fs h.1)
@@ -175,7 +175,7 @@ canonical_fit f h =
       bare = (v.1, v.2);
     }
 
-pub all_fit : (fs : List Field) → T (canonical_fields fs) → All Fit fs
+pub all_fit : (fs : List Field) → T (canonical_fields fs) → AllByRecursion Fit fs
 unfolding canonical_fields
 all_fit [] h = tt
 all_fit (f ∷ fs) h = (canonical_fit f (and_l (canonical_field f) (canonical_fields fs) h), all_fit fs (and_r (canonical_field f) (canonical_fields fs) h))

@@ -1,6 +1,6 @@
 -- What the fields of a head say of the body is what the grammar says.
 use Rattle.std.proofs.Common.{◌≡◌, ℕ, false, List, [], ◌∷◌, ◌++◌, map, IfOk, Some, None, Ok, codes, Option, sym, refl, ap, ◌∙◌, subst}
-use Rattle.std.specs.List.{AllByRecursion as All}
+use Rattle.std.specs.List.{AllByRecursion}
 use Rattle.std.proofs.lemmas.Result.{IfOk-at_ok, IfOk-weaker}
 use Rattle.std.proofs.lemmas.Bool.{cond_both, or_parts}
 use Rattle.text.specs.Bytes.{lowered, same, same_no_case}
@@ -40,7 +40,7 @@ says_means f =
 
 -- what it means that fields say so much: nothing, or one of them says it
 abbrev pub FramedAs : List Field → Option Said → Type 0
-FramedAs fs None = All Unframing fs
+FramedAs fs None = AllByRecursion Unframing fs
 FramedAs fs (Some said) = (f : Field) × Only Unframing fs f × SizeSpelled f said.size
 
 framed_later : (f : Field) (fs : List Field) → Unframing f → (o : Option Said) → FramedAs fs o → FramedAs (f ∷ fs) o
@@ -49,7 +49,7 @@ framed_later f fs u (Some said) h = (h.0, only_later Unframing h.0 f fs u h.1, h
 
 -- after a field that said something no other does
 abbrev Still : Said → List Sent → Option Said → Type 0
-Still s fs o = (o ≡ Some s) × All Unframing (map field_of fs)
+Still s fs o = (o ≡ Some s) × AllByRecursion Unframing (map field_of fs)
 
 still_more : (s : Said) (f : Sent) (fs : List Sent) (x : Says) → Means (field_of f) x → IfOk (framed (Some s) fs) (Still s fs) → IfOk (onward (say_on f (Some s) x) (λ o. framed o fs)) (Still s (f ∷ fs))
 still_more s f fs Nothing u h = IfOk-weaker (framed (Some s) fs) (Still s fs) (Still s (f ∷ fs)) (λ o k. (k.0, (u, k.1))) h
@@ -77,7 +77,7 @@ framed_as (f ∷ fs) = framed_more f fs (says_of f) (says_means f) (framed_as fs
 pub framing_read : (fs : List Sent) (o : Option Said) → framed None fs ≡ Ok o → FramedAs (map field_of fs) o
 framing_read fs o e = IfOk-at_ok (FramedAs (map field_of fs)) e (framed_as fs)
 
-pub framing_none_read : (fs : List Sent) → framed None fs ≡ Ok None → All Unframing (map field_of fs)
+pub framing_none_read : (fs : List Sent) → framed None fs ≡ Ok None → AllByRecursion Unframing (map field_of fs)
 framing_none_read fs e = framing_read fs None e
 
 pub framing_said_read : (fs : List Sent) (said : Said) → framed None fs ≡ Ok (Some said) → (f : Field) × Only Unframing (map field_of fs) f × SizeSpelled f said.size
@@ -95,20 +95,20 @@ says_size f Chunked h =
     rw (one_name f.name transfer_encoding content_length h.0 other, is_true (same_no_case f.name transfer_encoding) h.0, is_true (same_no_case f.value (codes "chunked")) h.1)
 
 -- fields that say nothing, before others and alone
-pub framed_past : (o : Option Said) (fs gs : List Sent) → All Unframing (map field_of fs) → framed o (fs ++ gs) ≡ framed o gs
+pub framed_past : (o : Option Said) (fs gs : List Sent) → AllByRecursion Unframing (map field_of fs) → framed o (fs ++ gs) ≡ framed o gs
 unfolding framed
 framed_past o [] gs h = refl
 framed_past o (f ∷ fs) gs h = rw (says_nothing f h.0) (framed_past o fs gs h.1)
 
-pub framed_none : (o : Option Said) (fs : List Sent) → All Unframing (map field_of fs) → framed o fs ≡ Ok o
+pub framed_none : (o : Option Said) (fs : List Sent) → AllByRecursion Unframing (map field_of fs) → framed o fs ≡ Ok o
 unfolding framed
 framed_none o [] h = refl
 framed_none o (f ∷ fs) h = rw (says_nothing f h.0) (framed_none o fs h.1)
 
-pub framing_none_spelled : (fs : List Sent) → All Unframing (map field_of fs) → framed None fs ≡ Ok None
+pub framing_none_spelled : (fs : List Sent) → AllByRecursion Unframing (map field_of fs) → framed None fs ≡ Ok None
 framing_none_spelled fs h = framed_none None fs h
 
-framed_one : (f : Sent) (fs : List Sent) (size : Size) → SizeSpelled (field_of f) size → All Unframing (map field_of fs) → framed None (f ∷ fs) ≡ Ok (Some (said_in f size))
+framed_one : (f : Sent) (fs : List Sent) (size : Size) → SizeSpelled (field_of f) size → AllByRecursion Unframing (map field_of fs) → framed None (f ∷ fs) ≡ Ok (Some (said_in f size))
 unfolding framed
 framed_one f fs size s h = rw (says_size f size s) (framed_none (Some (said_in f size)) fs h)
 
@@ -116,7 +116,7 @@ framed_one f fs size s h = rw (says_size f size s) (framed_none (Some (said_in f
 pub framing_said_spelled : (fs : List Sent) (f : Field) (size : Size) → Only Unframing (map field_of fs) f → SizeSpelled f size → (said : Said) × (framed None fs ≡ Ok (Some said)) × (said.size ≡ size)
 framing_said_spelled fs f size only s =
     let o = origin field_of fs only.before only.behind f only.joined in
-    let before : All Unframing (map field_of o.front) = rw o.fronts only.others.0 in
-    let behind : All Unframing (map field_of o.back) = rw o.backs only.others.1 in
+    let before : AllByRecursion Unframing (map field_of o.front) = rw o.fronts only.others.0 in
+    let behind : AllByRecursion Unframing (map field_of o.back) = rw o.backs only.others.1 in
     let here : SizeSpelled (field_of o.here) size = subst (λ g. SizeSpelled g size) (sym o.is) s in
     (said_in o.here size, ap (framed None) o.joined ∙ framed_past None o.front (o.here ∷ o.back) before ∙ framed_one o.here o.back size here behind, refl)

@@ -1,7 +1,7 @@
 -- What is wrong with what the fields of a head say of the body is what the grammar says.
 use Rattle.std.proofs.Common.{◌≡◌, ℕ, Bool, true, false, ◌||◌, ltb, List, [], ◌∷◌, ◌++◌, IfErr, Some, None, Ok, Err, Option, Result, sym, refl, ap, ◌∙◌, subst, ⊎_elim, arith}
 use Rattle.std.specs.Result as results
-use Rattle.std.specs.List.{AllByRecursion as All}
+use Rattle.std.specs.List.{AllByRecursion}
 use Rattle.std.proofs.lemmas.Result.{MatchResult-weaker}
 use Rattle.std.proofs.lemmas.Bool.{cond_both, cases_Bool, ltb-false, le-ltb}
 use Rattle.text.specs.Bytes.{Text, same_no_case}
@@ -46,7 +46,7 @@ says_something f i e =
 
 -- after a field that said something, what it means that another does, or none
 abbrev StillIn : Saying → List Sent → Option Saying → Type 0
-StillIn s fs o = (o ≡ Some s) × All Unframing (AsFields fs)
+StillIn s fs o = (o ≡ Some s) × AllByRecursion Unframing (AsFields fs)
 
 abbrev OtherIn : List Sent → Flaw → Type 0
 OtherIn fs v = (f : Sent) × FirstOther Unframing fs f × IsFraming f × (v ≡ flaw Framing f.at)
@@ -66,7 +66,7 @@ still s (f ∷ fs) = still_more s f fs (says_of f) refl (still s fs)
 
 -- what fields are found to say
 abbrev pub SaidIn : List Sent → Option Saying → Type 0
-SaidIn fs None = All Unframing (AsFields fs)
+SaidIn fs None = AllByRecursion Unframing (AsFields fs)
 SaidIn fs (Some s) = (f : Sent) × (size : Size) × OnlySent Unframing fs f × SizeSpelled (field_of f) size × (s ≡ said_in f size)
 
 said_later : (f : Sent) (fs : List Sent) → Unframing (field_of f) → (o : Option Saying) → SaidIn fs o → SaidIn (f ∷ fs) o
@@ -110,7 +110,7 @@ another s f fs Nothing h = absurd (h refl)
 another s f fs Nonsense h = refl
 another s f fs (Body size) h = refl
 
-second_found : (f g : Sent) (size : Size) (between behind : List Sent) → All Unframing (AsFields between) → SizeSpelled (field_of f) size → IsFraming g → framed None (f ∷ (between ++ (g ∷ behind))) ≡ Err (flaw Framing g.at)
+second_found : (f g : Sent) (size : Size) (between behind : List Sent) → AllByRecursion Unframing (AsFields between) → SizeSpelled (field_of f) size → IsFraming g → framed None (f ∷ (between ++ (g ∷ behind))) ≡ Err (flaw Framing g.at)
 unfolding framed
 second_found f g size between behind h s i =
     rw (says_size f size s) (framed_past (Some (said_in f size)) between (g ∷ behind) h ∙ another (said_in f size) g behind (says_of g) (says_something g i))
@@ -128,7 +128,7 @@ pub said_by_so : (fs : List Sent) (o : Option Saying) → SaidIn fs o → Said f
 said_by_so fs None h = nothing h
 said_by_so fs (Some s) h = once h.0 h.1 h.2 h.3
 
-one_found : (f : Sent) (size : Size) (fs : List Sent) → SizeSpelled (field_of f) size → All Unframing (AsFields fs) → framed None (f ∷ fs) ≡ Ok (Some (said_in f size))
+one_found : (f : Sent) (size : Size) (fs : List Sent) → SizeSpelled (field_of f) size → AllByRecursion Unframing (AsFields fs) → framed None (f ∷ fs) ≡ Ok (Some (said_in f size))
 unfolding framed
 one_found f size fs s h = rw (says_size f size s) (framed_none (Some (said_in f size)) fs h)
 

@@ -1,7 +1,7 @@
 -- What is wrong with the `host` of a head is what the grammar says.
 use Rattle.std.proofs.Common.{◌≡◌, ℕ, ◌+◌, ◌-◌, not, T, List, [], ◌∷◌, ◌++◌, IfNone, IfErr, Some, None, Ok, Err, Option, Result, refl, ap, ◌∙◌}
 use Rattle.std.specs.Result as results
-use Rattle.std.specs.List.{AllByRecursion as All}
+use Rattle.std.specs.List.{AllByRecursion}
 use Rattle.std.proofs.lemmas.Result.{MatchResult-weaker}
 use Rattle.std.proofs.lemmas.Bool.{cond_both}
 use Rattle.text.specs.Bytes.{Text, same_no_case}
@@ -19,7 +19,7 @@ use Rattle.request_laws.proofs.SentAmong.{other_here, other_later, twice_here, t
 
 -- what it means that this `host` was found among fields, or that there is a second one
 abbrev HostIn : List Sent → Option Sent → Type 0
-HostIn fs None = All Hostless (AsFields fs)
+HostIn fs None = AllByRecursion Hostless (AsFields fs)
 HostIn fs (Some g) = OnlySent Hostless fs g × IsHost g
 
 abbrev SecondIn : List Sent → Flaw → Type 0
@@ -31,7 +31,7 @@ host_later f fs u (Some g) h = (sent_later Hostless f g fs u h.0, h.1)
 
 -- the same after one was found
 abbrev StillIn : Sent → List Sent → Option Sent → Type 0
-StillIn g fs o = (o ≡ Some g) × All Hostless (AsFields fs)
+StillIn g fs o = (o ≡ Some g) × AllByRecursion Hostless (AsFields fs)
 
 abbrev OtherIn : List Sent → Flaw → Type 0
 OtherIn fs v = (f : Sent) × FirstOther Hostless fs f × IsHost f × (v ≡ flaw Host f.at)
@@ -54,7 +54,7 @@ host_in (f ∷ fs) =
     (λ e. MatchResult-weaker (host_among None fs) (host_in fs) (host_later f fs (rw e tt)) (λ v k. (k.0, k.1, twice_later Hostless f k.0 k.1 fs (rw e tt) k.2, k.3, k.4, k.5)))
 
 abbrev Unknown : Text → List Text → Type 0
-Unknown name names = All (λ n. T (not (same_no_case n name))) names
+Unknown name names = AllByRecursion (λ n. T (not (same_no_case n name))) names
 
 unknown_later : (name t : Text) (ts : List Text) → T (not (same_no_case t name)) → (o : Option ℕ) → IfNone o (Unknown name ts) → IfNone o (Unknown name (t ∷ ts))
 unknown_later name t ts h None u = (h, u)
@@ -94,7 +94,7 @@ module _ (names : List Text) (fs : List Sent) (len : ℕ) where
   host_wrong = go (host_among None fs) (host_in fs)
 
 -- two `host`s, and what is found of them
-second_found : (f g : Sent) (between behind : List Sent) → All Hostless (AsFields between) → IsHost f → IsHost g → host_among None (f ∷ (between ++ (g ∷ behind))) ≡ Err (flaw Host g.at)
+second_found : (f g : Sent) (between behind : List Sent) → AllByRecursion Hostless (AsFields between) → IsHost f → IsHost g → host_among None (f ∷ (between ++ (g ∷ behind))) ≡ Err (flaw Host g.at)
 unfolding host_among
 second_found f g between behind h i j = rw (is_true (is_host f) i) (host_past (Some f) between (g ∷ behind) h ∙ rw (is_true (is_host g) j))
 

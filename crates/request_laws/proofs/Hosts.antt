@@ -1,6 +1,6 @@
 -- The server that a head asks for is the one that the grammar says.
 use Rattle.std.proofs.Common.{◌≡◌, ℕ, ◌+◌, not, T, List, [], ◌∷◌, ◌++◌, map, length, IfSome, IfOk, Some, None, Ok, Err, codes, Option, Result, sym, refl, ap, ◌∙◌, subst, arith}
-use Rattle.std.specs.List.{AllByRecursion as All}
+use Rattle.std.specs.List.{AllByRecursion}
 use Rattle.std.proofs.lemmas.Result.{IfOk-at_ok, IfOk-weaker}
 use Rattle.std.proofs.lemmas.Bool.{cond_both}
 use Rattle.text.specs.Bytes.{Text, same_no_case}
@@ -15,7 +15,7 @@ use Rattle.request_laws.proofs.Among.{origin, only_first, only_later}
 
 -- what it means that this `host` was found: it is one, and the only one
 abbrev HostAs : List Sent → Option Sent → Type 0
-HostAs fs None = All Hostless (map field_of fs)
+HostAs fs None = AllByRecursion Hostless (map field_of fs)
 HostAs fs (Some g) = Only Hostless (map field_of fs) (field_of g) × Named (codes "host") (field_of g)
 
 host_later : (f : Sent) (fs : List Sent) → Hostless (field_of f) → (o : Option Sent) → HostAs fs o → HostAs (f ∷ fs) o
@@ -24,7 +24,7 @@ host_later f fs u (Some g) h = (only_later Hostless (field_of g) (field_of f) (m
 
 -- after one there is no other
 abbrev Still : Sent → List Sent → Option Sent → Type 0
-Still g fs o = (o ≡ Some g) × All Hostless (map field_of fs)
+Still g fs o = (o ≡ Some g) × AllByRecursion Hostless (map field_of fs)
 
 still : (g : Sent) (fs : List Sent) → IfOk (host_among (Some g) fs) (Still g fs)
 unfolding host_among
@@ -47,7 +47,7 @@ record First (k : ℕ) (name : Text) (names : List Text) (n : ℕ) : Type 0 wher
   earlier : List Text
   here : Text
   later : List Text
-  others : All (λ t. T (not (same_no_case t name))) earlier
+  others : AllByRecursion (λ t. T (not (same_no_case t name))) earlier
   same : T (same_no_case here name)
   joined : names ≡ earlier ++ (here ∷ later)
   count : k + length earlier ≡ n
@@ -84,21 +84,21 @@ host_read names end fs k e =
     IfOk-at_ok P e (made_onward (HostAs fs) P (host_among None fs) (chosen names end) (server_as names end fs) (host_as fs))
 
 -- fields that are no `host`, before others and alone
-pub host_past : (o : Option Sent) (fs gs : List Sent) → All Hostless (map field_of fs) → host_among o (fs ++ gs) ≡ host_among o gs
+pub host_past : (o : Option Sent) (fs gs : List Sent) → AllByRecursion Hostless (map field_of fs) → host_among o (fs ++ gs) ≡ host_among o gs
 unfolding host_among
 host_past o [] gs h = refl
 host_past o (f ∷ fs) gs h = rw (is_false (is_host f) h.0) (host_past o fs gs h.1)
 
-pub host_none : (o : Option Sent) (fs : List Sent) → All Hostless (map field_of fs) → host_among o fs ≡ Ok o
+pub host_none : (o : Option Sent) (fs : List Sent) → AllByRecursion Hostless (map field_of fs) → host_among o fs ≡ Ok o
 unfolding host_among
 host_none o [] h = refl
 host_none o (f ∷ fs) h = rw (is_false (is_host f) h.0) (host_none o fs h.1)
 
-pub host_one : (f : Sent) (fs : List Sent) → Named (codes "host") (field_of f) → All Hostless (map field_of fs) → host_among None (f ∷ fs) ≡ Ok (Some f)
+pub host_one : (f : Sent) (fs : List Sent) → Named (codes "host") (field_of f) → AllByRecursion Hostless (map field_of fs) → host_among None (f ∷ fs) ≡ Ok (Some f)
 unfolding host_among
 host_one f fs n h = rw (is_true (is_host f) n) (host_none (Some f) fs h)
 
-server_past : (k : ℕ) (name here : Text) (earlier later : List Text) → All (λ t. T (not (same_no_case t name))) earlier → T (same_no_case here name) → server_from k name (earlier ++ (here ∷ later)) ≡ Some (k + length earlier)
+server_past : (k : ℕ) (name here : Text) (earlier later : List Text) → AllByRecursion (λ t. T (not (same_no_case t name))) earlier → T (same_no_case here name) → server_from k name (earlier ++ (here ∷ later)) ≡ Some (k + length earlier)
 unfolding server_from
 server_past k name here [] later h s = rw (is_true (same_no_case here name) s) (ap Some (omega arith))
 server_past k name here (t ∷ ts) later h s = rw (is_false (same_no_case t name) h.0) (server_past (k + 1) name here ts later h.1 s ∙ ap Some (omega arith))
@@ -107,8 +107,8 @@ server_past k name here (t ∷ ts) later h s = rw (is_false (same_no_case t name
 pub host_spelled : (names : List Text) (end : ℕ) (fs : List Sent) (k : ℕ) → HostSpelled names (map field_of fs) k → server_of names end fs ≡ Ok k
 host_spelled names end fs k s =
     let o = origin field_of fs s.only.before s.only.behind s.host s.only.joined in
-    let before : All Hostless (map field_of o.front) = rw o.fronts s.only.others.0 in
-    let behind : All Hostless (map field_of o.back) = rw o.backs s.only.others.1 in
+    let before : AllByRecursion Hostless (map field_of o.front) = rw o.fronts s.only.others.0 in
+    let behind : AllByRecursion Hostless (map field_of o.back) = rw o.backs s.only.others.1 in
     let named : Named (codes "host") (field_of o.here) = subst (Named (codes "host")) (sym o.is) s.named in
     let found : host_among None fs ≡ Ok (Some o.here) = ap (host_among None) o.joined ∙ host_past None o.front (o.here ∷ o.back) before ∙ host_one o.here o.back named behind in
     let value : o.here.value ≡ s.host.value = ap (λ f. f.value) o.is in

@@ -1,6 +1,6 @@
 -- Fields that are kept of those as sent: they are canonical, fewer, have the one host, and are kept again as they are.
 use Rattle.std.proofs.Common.{◌≡◌, ℕ, suc, ◌+◌, ◌≤◌, Bool, true, false, cond, not, ◌&&◌, T, eqb, ◌⊎◌, List, [], ◌∷◌, ◌++◌, length, drop, codes, refl, ap, ◌∙◌, inl, inr, append-nil, arith}
-use Rattle.std.specs.List.{AllByRecursion as All}
+use Rattle.std.specs.List.{AllByRecursion}
 use Rattle.std.proofs.ByRecursion.{All-push}
 use Rattle.std.proofs.lemmas.List.{length-append}
 use Rattle.std.proofs.lemmas.Bool.{cond-true, cond-false, cond_both, eqb-true, or_parts, or_from, and_right}
@@ -56,23 +56,23 @@ fewer all (f ∷ fs) =
     cond_both (is_dropped all f.name) (kept_among all fs) (canonical_of f ∷ kept_among all fs) (λ (ks : List Field). length ks ≤ suc (length fs)) (λ e. omega arith) (λ e. omega arith)
 
 -- what holds of each that is kept, in canonical form
-pub kept_all : (P : Field → Type 0) (Q : Field → Type 0) (all : List Field) → ((f : Field) → is_dropped all f.name ≡ false → P f → Q (canonical_of f)) → (fs : List Field) → All P fs → All Q (kept_among all fs)
+pub kept_all : (P : Field → Type 0) (Q : Field → Type 0) (all : List Field) → ((f : Field) → is_dropped all f.name ≡ false → P f → Q (canonical_of f)) → (fs : List Field) → AllByRecursion P fs → AllByRecursion Q (kept_among all fs)
 unfolding kept_among
 kept_all P Q all go [] h = tt
 kept_all P Q all go (f ∷ fs) h =
     let more = kept_all P Q all go fs h.1 in
-    cond_both (is_dropped all f.name) (kept_among all fs) (canonical_of f ∷ kept_among all fs) (All Q) (λ e. more) (λ e. (go f e h.0, more))
+    cond_both (is_dropped all f.name) (kept_among all fs) (canonical_of f ∷ kept_among all fs) (AllByRecursion Q) (λ e. more) (λ e. (go f e h.0, more))
 
 -- names that are not dropped are none of the nine
 not_hop : (all : List Field) (name : Text) → is_dropped all name ≡ false → among (lowered name) dropped ≡ false
 not_hop all name e = (or_parts (hop_by_hop name) (not (same_no_case name (codes "host")) && named_by name all) e).0
 
-all_canonical_so : (fs : List Field) → All (λ f. T (canonical_field f)) fs → T (canonical_fields fs)
+all_canonical_so : (fs : List Field) → AllByRecursion (λ f. T (canonical_field f)) fs → T (canonical_fields fs)
 unfolding canonical_fields
 all_canonical_so [] h = tt
 all_canonical_so (f ∷ fs) h = and_i (canonical_field f) (canonical_fields fs) h.0 (all_canonical_so fs h.1)
 
-pub kept_canonical : (all fs : List Field) → All Fit fs → T (canonical_fields (kept_among all fs))
+pub kept_canonical : (all fs : List Field) → AllByRecursion Fit fs → T (canonical_fields (kept_among all fs))
 kept_canonical all fs h = all_canonical_so (kept_among all fs) (kept_all Fit (λ f. T (canonical_field f)) all (λ f e k. canonical_of_so f k (not_hop all f.name e)) fs h)
 
 -- what a name is not that is none of the nine
@@ -97,7 +97,7 @@ canonical_name f h =
     rw (lowered_name f.name lower) (is_false (among f.name dropped) out)
 
 -- canonical fields say nothing of the body
-pub canonical_unframing : (fs : List Field) → T (canonical_fields fs) → All Unframing fs
+pub canonical_unframing : (fs : List Field) → T (canonical_fields fs) → AllByRecursion Unframing fs
 unfolding canonical_fields
 canonical_unframing [] h = tt
 canonical_unframing (f ∷ fs) h =
@@ -108,19 +108,19 @@ canonical_unframing (f ∷ fs) h =
 abbrev Unnaming : Field → Type 0
 Unnaming f = same_no_case f.name (codes "connection") ≡ false
 
-canonical_unnaming : (fs : List Field) → T (canonical_fields fs) → All Unnaming fs
+canonical_unnaming : (fs : List Field) → T (canonical_fields fs) → AllByRecursion Unnaming fs
 unfolding canonical_fields
 canonical_unnaming [] h = tt
 canonical_unnaming (f ∷ fs) h =
     ((sound f.name (canonical_name f (and_l (canonical_field f) (canonical_fields fs) h))).connection, canonical_unnaming fs (and_r (canonical_field f) (canonical_fields fs) h))
 
-unnamed : (name : Text) (fs : List Field) → All Unnaming fs → named_by name fs ≡ false
+unnamed : (name : Text) (fs : List Field) → AllByRecursion Unnaming fs → named_by name fs ≡ false
 unfolding named_by
 unnamed name [] h = refl
 unnamed name (f ∷ fs) h = rw h.0 (unnamed name fs h.1)
 
 -- among fields of which none names another, canonical ones are kept as they are
-kept_same : (all : List Field) → All Unnaming all → (fs : List Field) → T (canonical_fields fs) → kept_among all fs ≡ fs
+kept_same : (all : List Field) → AllByRecursion Unnaming all → (fs : List Field) → T (canonical_fields fs) → kept_among all fs ≡ fs
 unfolding canonical_fields
 kept_same all u [] h = unfold kept_among in refl
 kept_same all u (f ∷ fs) h =
@@ -208,12 +208,12 @@ other_kept : (f : Field) → Hostless f → Other (canonical_of f)
 unfolding lowered
 other_kept f h = is_false (same_no_case f.name (codes "host")) h
 
-count_none : (fs : List Field) → All Other fs → count_named (codes "host") fs ≡ 0
+count_none : (fs : List Field) → AllByRecursion Other fs → count_named (codes "host") fs ≡ 0
 unfolding count_named
 count_none [] h = refl
 count_none (f ∷ fs) h = rw h.0 (count_none fs h.1)
 
-count_one : (fs gs : List Field) (f : Field) → All Other fs → All Other gs → same f.name (codes "host") ≡ true → count_named (codes "host") (fs ++ (f ∷ gs)) ≡ 1
+count_one : (fs gs : List Field) (f : Field) → AllByRecursion Other fs → AllByRecursion Other gs → same f.name (codes "host") ≡ true → count_named (codes "host") (fs ++ (f ∷ gs)) ≡ 1
 unfolding count_named
 count_one [] gs f h k e = rw (e, count_none gs k)
 count_one (g ∷ fs) gs f h k e = rw h.0 (count_one fs gs f h.1 k e)

@@ -1,7 +1,7 @@
 -- A head that is let pass is a good head, with the places of its fields; and a good head is let pass.
 use Rattle.std.proofs.Common.{◌≡◌, ℕ, zero, suc, ◌+◌, ◌≤◌, Bool, T, List, [], ◌∷◌, ◌++◌, length, take, drop, Some, Ok, sym, refl, ap, ◌∙◌, subst, arith}
 use mathlib.Core.List.{map-append}
-use Rattle.std.specs.List.{AllByRecursion as All}
+use Rattle.std.specs.List.{AllByRecursion}
 use Rattle.std.proofs.lemmas.List.{length-map, drop_at, take-append-drop}
 use Rattle.text.specs.Bytes.{Text, all, clean}
 use Rattle.text.proofs.Passing.{and_r, all_take, not_end}
@@ -144,7 +144,7 @@ good_passed names s m t fs len k g =
 pub only_sent : (P : Field → Type 0) (fs : List Sent) (f : Field) → Only P (AsFields fs) f → (g : Sent) × OnlySent P fs g × (field_of g ≡ f)
 only_sent P fs f o =
     let g = origin field_of fs o.before o.behind f o.joined in
-    (g.here, record { before = g.front; behind = g.back; others = (subst (All P) (sym g.fronts) o.others.0, subst (All P) (sym g.backs) o.others.1); joined = g.joined }, g.is)
+    (g.here, record { before = g.front; behind = g.back; others = (subst (AllByRecursion P) (sym g.fronts) o.others.0, subst (AllByRecursion P) (sym g.backs) o.others.1); joined = g.joined }, g.is)
 
 pub only_field : (P : Field → Type 0) (fs : List Sent) (f : Sent) → OnlySent P fs f → Only P (AsFields fs) (field_of f)
 only_field P fs f o =

@@ -1,6 +1,6 @@
 -- The fields that are sent on for what a text means: they are few, say how long the body is, and name the same server.
 use Rattle.std.proofs.Common.{◌≡◌, ℕ, ◌+◌, ◌<◌, ◌≤◌, true, false, not, ◌||◌, T, eqb, List, [], ◌∷◌, ◌++◌, length, sym, refl, ap, ◌∙◌, subst, append_assoc, arith}
-use Rattle.std.specs.List.{AllByRecursion as All}
+use Rattle.std.specs.List.{AllByRecursion}
 use Rattle.std.proofs.ByRecursion.{All-push}
 use Rattle.std.proofs.lemmas.List.{length_push}
 use Rattle.std.proofs.lemmas.Bool.{cond_both}
@@ -23,8 +23,8 @@ use Rattle.request_laws.proofs.KeptAgain.{fewer, kept_again, kept_again_length, 
 pub by_body : (P : List Field → Type 0) (q : Req) → (T (carries_body q.method) → P (q.fields ++ (length_field q.body ∷ []))) → (T (not (carries_body q.method)) → P q.fields) → P (sent_fields q)
 by_body P q f g = cond_both (carries_body q.method) (q.fields ++ (length_field q.body ∷ [])) q.fields P (λ e. f (rw e tt)) (λ e. g (rw e tt))
 
-pub sent_fit : (q : Req) → T (canonical_fields q.fields) → All Fit (sent_fields q)
-sent_fit q h = by_body (All Fit) q (λ b. All-push Fit q.fields (length_field q.body) (all_fit q.fields h) (length_fit q.body)) (λ b. all_fit q.fields h)
+pub sent_fit : (q : Req) → T (canonical_fields q.fields) → AllByRecursion Fit (sent_fields q)
+sent_fit q h = by_body (AllByRecursion Fit) q (λ b. All-push Fit q.fields (length_field q.body) (all_fit q.fields h) (length_fit q.body)) (λ b. all_fit q.fields h)
 
 pub sent_kept : (q : Req) → T (canonical_fields q.fields) → kept_of (sent_fields q) ≡ q.fields
 sent_kept q h = by_body (λ fs. kept_of fs ≡ q.fields) q (λ b. kept_again_length q.fields q.body h) (λ b. kept_again q.fields h)
@@ -98,7 +98,7 @@ kept_server names fs k h s =
       earlier = s.earlier;
       name = s.name;
       later = s.later;
-      others = subst (λ u. All (λ n. T (not (same_no_case n u))) s.earlier) (sym is) s.others;
+      others = subst (λ u. AllByRecursion (λ n. T (not (same_no_case n u))) s.earlier) (sym is) s.others;
       same = subst (λ u. T (same_no_case s.name u)) (sym is) s.same;
       joined = s.joined;
       count = s.count;

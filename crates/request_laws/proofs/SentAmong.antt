@@ -1,6 +1,6 @@
 -- Fields as sent among others: the first that is not of a kind, the only one, and two of them.
 use Rattle.std.proofs.Common.{List, [], ◌∷◌, refl, ap}
-use Rattle.std.specs.List.{AllByRecursion as All}
+use Rattle.std.specs.List.{AllByRecursion}
 use Rattle.message.specs.Fields.{Field}
 use Rattle.message.specs.Hops.{field_of}
 use Rattle.message.specs.Sent.{Sent}
@@ -20,7 +20,7 @@ module _ (P : Field → Type 0) where
   twice_later h f g fs p o =
       record { before = h ∷ o.before; between = o.between; behind = o.behind; others = ((p, o.others.0), o.others.1); joined = ap (λ u. h ∷ u) o.joined }
 
-  pub sent_here : (f : Sent) (fs : List Sent) → All P (AsFields fs) → OnlySent P (f ∷ fs) f
+  pub sent_here : (f : Sent) (fs : List Sent) → AllByRecursion P (AsFields fs) → OnlySent P (f ∷ fs) f
   sent_here f fs h = record { before = []; behind = fs; others = (tt, h); joined = refl }
 
   pub sent_later : (g f : Sent) (fs : List Sent) → P (field_of g) → OnlySent P fs f → OnlySent P (g ∷ fs) f

@@ -1,7 +1,7 @@
 -- What can be wrong with a client's bytes, and where: every fault by the grammar that it breaks, in the stated order. A fault that stands later
 -- in the order is one only where all that comes before it is good.
 use Rattle.std.specs.Prelude.{◌≡◌, ℕ, ◌+◌, ◌-◌, ◌<◌, ◌≤◌, Bool, true, false, not, ◌||◌, T, ◌⊎◌, List, [], ◌∷◌, ◌++◌, map, length, take, drop, codes, ◌==◌}
-use Rattle.std.specs.List.{prefix_len, AllByRecursion as All}
+use Rattle.std.specs.List.{prefix_len, AllByRecursion}
 use Rattle.text.specs.Bytes.{Text, blank, plain_byte, query_byte, all, clean, nonempty, same_no_case}
 use Rattle.text.specs.Marks.{before}
 use Rattle.text_laws.specs.Laws.{Strays}
@@ -99,21 +99,21 @@ pub record Twice (P : Field → Type 0) (fs : List Sent) (f g : Sent) : Type 0 w
   pub before : List Sent
   pub between : List Sent
   pub behind : List Sent
-  pub others : All P (AsFields before) × All P (AsFields between)
+  pub others : AllByRecursion P (AsFields before) × AllByRecursion P (AsFields between)
   pub joined : fs ≡ before ++ (f ∷ (between ++ (g ∷ behind)))
 
 -- of some fields, the first that is not of a kind
 pub record FirstOther (P : Field → Type 0) (fs : List Sent) (f : Sent) : Type 0 where
   pub before : List Sent
   pub behind : List Sent
-  pub others : All P (AsFields before)
+  pub others : AllByRecursion P (AsFields before)
   pub joined : fs ≡ before ++ (f ∷ behind)
 
 -- one, and all others of a kind
 pub record OnlySent (P : Field → Type 0) (fs : List Sent) (f : Sent) : Type 0 where
   pub before : List Sent
   pub behind : List Sent
-  pub others : All P (AsFields before) × All P (AsFields behind)
+  pub others : AllByRecursion P (AsFields before) × AllByRecursion P (AsFields behind)
   pub joined : fs ≡ before ++ (f ∷ behind)
 
 abbrev pub IsHost : Sent → Type 0
@@ -121,9 +121,9 @@ IsHost f = Named (codes "host") (field_of f)
 
 -- 4: no host, a second one, or one that names no server
 pub data HostFault (names : List Text) (fs : List Sent) (len : ℕ) : Flaw → Type 0 where
-  none : All Hostless (AsFields fs) → HostFault names fs len (flaw Host (len - 2))
+  none : AllByRecursion Hostless (AsFields fs) → HostFault names fs len (flaw Host (len - 2))
   second : (f g : Sent) → Twice Hostless fs f g → IsHost f → IsHost g → HostFault names fs len (flaw Host g.at)
-  unknown : (f : Sent) → OnlySent Hostless fs f → IsHost f → All (λ n. T (not (same_no_case n f.value))) names → HostFault names fs len (flaw Host f.value_at)
+  unknown : (f : Sent) → OnlySent Hostless fs f → IsHost f → AllByRecursion (λ n. T (not (same_no_case n f.value))) names → HostFault names fs len (flaw Host f.value_at)
 
 abbrev pub IsFraming : Sent → Type 0
 IsFraming f = T (same_no_case f.name content_length || same_no_case f.name transfer_encoding)
@@ -135,12 +135,12 @@ pub data FramingFault (fs : List Sent) : Flaw → Type 0 where
 
 -- at most one field says how long the body is
 pub data Said (fs : List Sent) : Type 0 where
-  nothing : All Unframing (AsFields fs) → Said fs
+  nothing : AllByRecursion Unframing (AsFields fs) → Said fs
   once : (f : Sent) (size : Size) → OnlySent Unframing fs f → SizeSpelled (field_of f) size → Said fs
 
 -- 6, and a length that is too large, which is 7: what the method and the fields say of the body
 pub data BodyFault (m : Text) (fs : List Sent) (len : ℕ) : Flaw → Type 0 where
-  unsaid : T (carries_body m) → All Unframing (AsFields fs) → BodyFault m fs len (flaw BodyUnfit (len - 2))
+  unsaid : T (carries_body m) → AllByRecursion Unframing (AsFields fs) → BodyFault m fs len (flaw BodyUnfit (len - 2))
   unwanted : (f : Sent) (size : Size) → T (not (carries_body m)) → OnlySent Unframing fs f → SizeSpelled (field_of f) size → BodyFault m fs len (flaw BodyUnfit f.at)
   too_long : (f : Sent) (n : ℕ) → T (carries_body m) → OnlySent Unframing fs f → SizeSpelled (field_of f) (Length n) → body_limit ≤ n → BodyFault m fs len (flaw BodyTooLong f.value_at)
 

@@ -1,7 +1,7 @@
 -- The grammar of requests as clients may send them, as texts joined together, and the canonical request that each means. RFC 9112, 2.1:
 -- HTTP-message = start-line CRLF *( field-line CRLF ) CRLF [ message-body ].
 use Rattle.std.specs.Prelude.{◌≡◌, ℕ, ◌+◌, ◌<◌, ◌≤◌, not, T, List, [], ◌∷◌, ◌++◌, length, Some, codes}
-use Rattle.std.specs.List.{AllByRecursion as All}
+use Rattle.std.specs.List.{AllByRecursion}
 use Rattle.text.specs.Bytes.{Text, same_no_case}
 use Rattle.text.specs.Numerals.{number_of}
 use Rattle.text.specs.declared.numeral.Base.TheVariants.{Decimal}
@@ -16,7 +16,7 @@ use Rattle.request_laws.specs.Lines.{LinesSpelled, Named, Unframing, Only, HostS
 
 -- The body that follows a head, by its method and its fields, as sent and as it is: none; or as long as the one length says; or in chunks.
 pub data BodySpelled (m : Text) (fs : List Field) : Text → Text → Type 0 where
-  none : T (not (carries_body m)) → All Unframing fs → BodySpelled m fs [] []
+  none : T (not (carries_body m)) → AllByRecursion Unframing fs → BodySpelled m fs [] []
   sized : {b : Text} (f : Field) → T (carries_body m) → Only Unframing fs f → Named content_length f → number_of Decimal f.value ≡ Some (length b) → BodySpelled m fs b b
   chunked : {t b : Text} (f : Field) → T (carries_body m) → Only Unframing fs f → Named transfer_encoding f → T (same_no_case f.value (codes "chunked")) → Chunked t b → BodySpelled m fs t b
 

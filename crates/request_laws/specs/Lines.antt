@@ -1,6 +1,6 @@
 -- The grammar of field lines as they are sent, and what fields say of the server and of the body.
 use Rattle.std.specs.Prelude.{◌≡◌, ℕ, ◌≤◌, Bool, true, not, ◌&&◌, ◌||◌, T, List, [], ◌∷◌, ◌++◌, length, Some, codes}
-use Rattle.std.specs.List.{AllByRecursion as All}
+use Rattle.std.specs.List.{AllByRecursion}
 use Rattle.text.specs.Bytes.{Text, name_byte, host_byte, value_byte, all, same_no_case, nonempty}
 use Rattle.text.specs.Numerals.{number_of}
 use Rattle.text.specs.declared.numeral.Base.TheVariants.{Decimal}
@@ -39,7 +39,7 @@ SizeSpelled f Chunked = Named transfer_encoding f × T (same_no_case f.value (co
 pub record Only (P : Field → Type 0) (fs : List Field) (f : Field) : Type 0 where
   pub before : List Field
   pub behind : List Field
-  pub others : All P before × All P behind
+  pub others : AllByRecursion P before × AllByRecursion P behind
   pub joined : fs ≡ before ++ (f ∷ behind)
 
 -- no `host`
@@ -54,7 +54,7 @@ pub record HostSpelled (names : List Text) (fs : List Field) (k : ℕ) : Type 0 
   pub earlier : List Text
   pub name : Text
   pub later : List Text
-  pub others : All (λ n. T (not (same_no_case n host.value))) earlier
+  pub others : AllByRecursion (λ n. T (not (same_no_case n host.value))) earlier
   pub same : T (same_no_case name host.value)
   pub joined : names ≡ earlier ++ (name ∷ later)
   pub count : length earlier ≡ k

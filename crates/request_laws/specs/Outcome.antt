@@ -5,7 +5,7 @@ use Rattle.message.specs.Chunked.{Run, run}
 use Rattle.message.specs.Faults.{flaw}
 use Rattle.message.specs.Fields.{Field}
 use Rattle.message.specs.Hops.{field_of, kept_of}
-use Rattle.message.specs.Sent.{Found, ended, more as moreFields, wrong, fields_in}
+use Rattle.message.specs.Sent.{Found, ended, more as more_fields, wrong, fields_in}
 use Rattle.message.specs.declared.chunked.Outcome.{Outcome as Chunked}
 use Rattle.message.specs.declared.chunked.Outcome.TheVariants.{More, Whole, Wrong}
 use Rattle.message.specs.declared.fault.Flaw.{Flaw}
@@ -32,7 +32,7 @@ meaning head h body fs = record { method = take head.method h; target = undone (
 
 abbrev pub on_fields : Head → Text → Text → Found → Finding
 on_fields head h body (ended fs end) = limited head.server head.len (meaning head h body (map field_of fs))
-on_fields head h body moreFields = more
+on_fields head h body more_fields = more
 on_fields head h body (wrong w) = fault w
 
 abbrev pub on_target : Head → Text → Text → Result Unit Flaw → Finding

@@ -2,7 +2,7 @@ use Rattle.std.proofs.Common.{◌≡◌, ℕ, ◌+◌, ◌-◌, ◌≤◌, Bool,
 use borrow.Rule.Slice.PartMut.{put_mid}
 use Rattle.std.proofs.lemmas.List.{length-drop, take-append-drop, take_rest}
 use Rattle.text.specs.Bytes.{Text, placed}
-use Rattle.message.specs.Chunked.{run, fits, told, fed_by as chunkFed, held_by as chunkHeld}
+use Rattle.message.specs.Chunked.{run, fits, told, fed_by as chunk_fed, held_by as chunk_held}
 use Rattle.message.specs.declared.chunked.Chunk.{Chunk}
 use Rattle.message.specs.declared.chunked.Fed.{Fed as ChunkFed}
 use Rattle.message.specs.declared.chunked.Outcome.{Outcome}
@@ -29,19 +29,19 @@ module _ (head : Head) (filled : ℕ) (chunk : Chunk) (memory piece : Text) wher
   abbrev free : Text
   free = take (length memory - filled) (drop filled memory)
 
-  step_so : (r : Result ChunkFed Unfit) (out : Text) → r ≡ chunkFed chunk (length free) piece → out ≡ chunkHeld chunk free piece → on_chunks head filled chunk memory out r ≡ chunks_step head filled chunk memory piece
+  step_so : (r : Result ChunkFed Unfit) (out : Text) → r ≡ chunk_fed chunk (length free) piece → out ≡ chunk_held chunk free piece → on_chunks head filled chunk memory out r ≡ chunks_step head filled chunk memory piece
   step_so r out e h =
-      ap (λ o. on_chunks head filled chunk memory o r) (h ∙ ap (λ f. chunkHeld chunk f piece) (take_rest memory filled))
-      ∙ ap (on_chunks head filled chunk memory (chunkHeld chunk (drop filled memory) piece)) (e ∙ ap (λ f. chunkFed chunk (length f) piece) (take_rest memory filled))
+      ap (λ o. on_chunks head filled chunk memory o r) (h ∙ ap (λ f. chunk_held chunk f piece) (take_rest memory filled))
+      ∙ ap (on_chunks head filled chunk memory (chunk_held chunk (drop filled memory) piece)) (e ∙ ap (λ f. chunk_fed chunk (length f) piece) (take_rest memory filled))
 
   -- nothing was read, and the memory is as it was
-  unfit_held : (u : Unfit) (out : Text) → ◌≡◌ {A = Result ChunkFed Unfit} (Err u) (chunkFed chunk (length free) piece) → out ≡ chunkHeld chunk free piece → put_mid filled (length memory - filled) memory out ≡ memory
+  unfit_held : (u : Unfit) (out : Text) → ◌≡◌ {A = Result ChunkFed Unfit} (Err u) (chunk_fed chunk (length free) piece) → out ≡ chunk_held chunk free piece → put_mid filled (length memory - filled) memory out ≡ memory
   unfit_held u out e h =
       end_placed filled memory out
       ∙ ap (λ zs. take filled memory ++ zs) (h ∙ unfit_if (fits chunk (length free) (length piece)) (told (run chunk piece)) u record {} (placed (run chunk piece).body free) free e ∙ take_rest memory filled)
       ∙ take-append-drop filled memory
 
-  module _ (f : ChunkFed) (e : ◌≡◌ {A = Result ChunkFed Unfit} (Ok f) (chunkFed chunk (length free) piece)) where
+  module _ (f : ChunkFed) (e : ◌≡◌ {A = Result ChunkFed Unfit} (Ok f) (chunk_fed chunk (length free) piece)) where
     is_run : (fits chunk (length free) (length piece) ≡ true) × (f ≡ told (run chunk piece))
     is_run = fed_if (fits chunk (length free) (length piece)) f (told (run chunk piece)) record {} e
 
@@ -53,7 +53,7 @@ module _ (head : Head) (filled : ℕ) (chunk : Chunk) (memory piece : Text) wher
         let long : length free ≡ length memory - filled = ap length (take_rest memory filled) ∙ length-drop filled memory in
         omega (arith, ap (λ (g : ChunkFed). g.written) is_run.1, (run_bounded chunk piece).kept, (fits_so chunk (length free) (length piece) is_run.0).0)
 
-    outcome_so : (o : Outcome) (out : Text) → f.outcome ≡ o → out ≡ chunkHeld chunk free piece → on_outcome head filled f (take filled memory ++ out) o ≡ chunks_step head filled chunk memory piece
+    outcome_so : (o : Outcome) (out : Text) → f.outcome ≡ o → out ≡ chunk_held chunk free piece → on_outcome head filled f (take filled memory ++ out) o ≡ chunks_step head filled chunk memory piece
     outcome_so o out is h = ap (on_outcome head filled f (take filled memory ++ out)) (sym is) ∙ step_so (Ok f) out e h
 
 pub returns-in_default : goal.returns-in_default
