@@ -1,5 +1,7 @@
 // Explains what a client sends: the settings come from a file, the client's bytes on standard input, and what is found of each request is
 // printed, with what the rules of its server say. Memory for one request, one piece of input and its text is held, and used again.
+#![tactic(auto)]
+
 use message::fault::{Fault, Flaw, Unfit};
 use message::sent_field::blank_fields;
 use report::tell;
@@ -14,6 +16,7 @@ use script::statement::{Statement, Verdict};
 use std::alloc::{AllocError, Global};
 use std::fs::File;
 use std::io::{BufRead, BufReader, Read, Write};
+use std::process::ExitCode;
 use std::{env, fmt, io};
 
 // How much of the input is read at a time.
@@ -295,10 +298,10 @@ fn run(rt: &HostRuntime) -> Result<(), Stop> {
     explain(rt, servers, &names[0..n])
 }
 
-fn main(rt: HostRuntime) -> Result<(), Stop> {
-    let result = run(&rt);
-    if let Err(stop) = &result {
-        eprintln!(rt; "{stop}")?;
-    }
-    result
+fn main(rt: HostRuntime) -> ExitCode {
+    let Err(stop) = run(&rt) else {
+        return ExitCode::SUCCESS;
+    };
+    let _ = eprintln!(rt; "{stop}");
+    ExitCode::FAILURE
 }
