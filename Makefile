@@ -2,7 +2,7 @@
 .PHONY: run test
 
 run:
-	rt check gate explain
+	bash tests/build
 	@echo "--- examples/first.script:"
 	target/bin/gate < examples/first.script
 	@echo "--- read to its end without an error"
