@@ -1,5 +1,5 @@
 -- What hearing a piece of a response says, by the ear.
-use Rattle.std.specs.Prelude.{◌≡◌, ℕ, ◌≤◌, Bool, List, [], ◌∷◌, ◌++◌, length, drop}
+use Rattle.std.specs.Prelude.{◌≡◌, ℕ, ◌≤◌, ◌++◌, drop}
 use Rattle.text.specs.Bytes.{Text}
 use Rattle.connection.specs.Model.{Ear, more, unreadable, whole}
 use Rattle.connection.specs.declared.hearing.Heard.{Heard}

@@ -1,6 +1,6 @@
 -- What the state of a connection and the memory lent for it stand for in the model, and what each call does there. The ghost fields of the model (what
 -- was given, told and sent) are in no state: a call is said to do its step whatever they are.
-use Rattle.std.specs.Prelude.{◌≡◌, ℕ, ◌<◌, ◌≤◌, Bool, true, false, cond, ◌&&◌, List, [], ◌∷◌, ◌++◌, length, Some, None, Ok, Err, Option, Result, ◌==◌, ◌≢◌, nat_lt}
+use Rattle.std.specs.Prelude.{◌≡◌, ℕ, ◌<◌, ◌≤◌, Bool, false, cond, ◌&&◌, List, [], ◌∷◌, ◌++◌, length, Some, None, Ok, Err, Option, Result, ◌==◌, ◌≢◌, nat_lt}
 use Rattle.text.specs.Bytes.{Text}
 use Rattle.message.specs.declared.fault.Fault.{Fault}
 use Rattle.message.specs.declared.fault.Fault.TheVariants.{Busy as TooMany, Down}
@@ -11,7 +11,6 @@ use Rattle.connection.specs.Model.{Ear, Owner, Given, Conn, Turn, rests, gives, 
 use Rattle.connection.specs.Owners.{owner_of, queued, waiting_in, first_of}
 use Rattle.connection.specs.declared.owners.Owner.{Owner as Held}
 use Rattle.connection.specs.declared.state.Connection.{Connection}
-use Rattle.connection.specs.declared.state.Idle.{Idle}
 use Rattle.connection.specs.declared.state.Busy.{Busy}
 use Rattle.connection.specs.declared.state.Falling.{Falling}
 use Rattle.connection.specs.declared.state.Handed.{Handed}

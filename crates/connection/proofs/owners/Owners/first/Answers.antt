@@ -1,4 +1,4 @@
-use Rattle.std.proofs.Common.{◌≡◌, ◌<◌, length, sym, ap, arith}
+use Rattle.std.proofs.Common.{◌<◌, sym, ap, arith}
 use Rattle.connection.specs.Owners.{first_of}
 use Rattle.connection.proofs.Round.{round_pop}
 use Rattle.connection.proofs.owners.Owners.first.Goals as goal
