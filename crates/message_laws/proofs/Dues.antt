@@ -17,7 +17,7 @@ use Rattle.message.specs.declared.chunked.Outcome.{Outcome}
 use Rattle.message.specs.declared.chunked.Outcome.TheVariants.{Wrong}
 use Rattle.message.specs.declared.chunked.Step.{Step}
 use Rattle.message.specs.declared.chunked.Step.TheVariants.{On, End, Bad}
-use Rattle.message.specs.Chunked.{in_phase, to, bad, only, on_size, sized, Run, after, stop, go, run}
+use Rattle.message.specs.Chunked.{in_phase, to, bad, only, on_size, sized, Run, stop, go, run}
 use Rattle.message_laws.specs.Chunks.{crlf}
 use Rattle.message_laws.proofs.Sizes.{value_on, digit_small}
 

@@ -13,7 +13,7 @@ use Rattle.message.specs.declared.chunked.Phase.TheVariants.{Size, SizeLf}
 use Rattle.message.specs.declared.chunked.Outcome.{Outcome}
 use Rattle.message.specs.declared.chunked.Outcome.TheVariants.{Whole, Wrong}
 use Rattle.message.specs.declared.chunked.Step.{Step}
-use Rattle.message.specs.Chunked.{in_phase, fresh, Run, after, go, run}
+use Rattle.message.specs.Chunked.{in_phase, fresh, Run, go, run}
 use Rattle.message_laws.specs.Breaks.{Breaks}
 use Rattle.message_laws.specs.Chunks.{crlf, Says, Part, Right, sent, all_sent, all_bytes}
 use Rattle.message_laws.specs.ChunkFaults.{ChunkFirst, TooLarge, BadChunk, too_large, malformed, ChunksBreak, ChunksRefused}

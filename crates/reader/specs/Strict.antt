@@ -1,5 +1,5 @@
 -- The common strict reader: what a server does that forgives nothing. It shows that fair readers exist.
-use Rattle.std.specs.Prelude.{ℕ, Bool, false, cond, ◌&&◌, List, [], ◌∷◌, Some, None, Option, ◌==◌}
+use Rattle.std.specs.Prelude.{ℕ, false, cond, ◌&&◌, List, [], ◌∷◌, Some, None, Option, ◌==◌}
 use Rattle.text.specs.Bytes.{Text, upper, visible, name_byte, value_byte, all, same, lowered, nonempty}
 use Rattle.text.specs.Marks.{cut_at}
 use Rattle.text.specs.Trims.{trimmed}

@@ -13,7 +13,7 @@ use Rattle.request.specs.declared.head.Head.{Head}
 use Rattle.request.specs.declared.head.Due.{Due}
 use Rattle.request.specs.declared.head.Due.TheVariants.{Length, Chunks}
 use Rattle.request.specs.declared.head.Judged.{Judged}
-use Rattle.request_laws.specs.Outcome.{broken, on_head, outcome}
+use Rattle.request_laws.specs.Outcome.{broken, on_head}
 use Rattle.request_laws.proofs.BodyFed.{length_fed}
 use Rattle.request_laws.proofs.ChunksFed.{chunks_fed}
 use Rattle.request_laws.proofs.HeadPasses.{room_left}

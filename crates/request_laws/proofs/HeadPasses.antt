@@ -1,5 +1,5 @@
 -- What a head that is let pass has, and that one of which more is wanted leaves room in the window.
-use Rattle.std.proofs.Common.{◌≡◌, ℕ, ◌+◌, ◌-◌, ◌<◌, true, false, ltb, List, length, take, Some, None, Ok, Err, Option, Result, refl, subst}
+use Rattle.std.proofs.Common.{◌≡◌, ℕ, ◌+◌, ◌<◌, true, false, ltb, List, length, take, Some, None, Ok, Err, Option, Result, refl, subst}
 use Rattle.std.proofs.lemmas.Bool.{cond_both, ltb-true}
 use Rattle.text.specs.Bytes.{Text}
 use Rattle.text.specs.Cuts.{LineCut, whole, short, stray, cut_line}

@@ -15,7 +15,7 @@ use Rattle.request.specs.declared.head.Head.{Head}
 use Rattle.request.specs.declared.head.Due.{Due}
 use Rattle.request.specs.declared.head.Due.TheVariants.{Length, Chunks}
 use Rattle.request.specs.declared.head.Judged.{Judged}
-use Rattle.request_laws.specs.Outcome.{wants, whole, judged_whole, on_run, on_due, on_head, outcome}
+use Rattle.request_laws.specs.Outcome.{wants, whole, judged_whole, on_run, on_due, on_head}
 use Rattle.request_laws.specs.Laws.{Stays}
 use Rattle.request_laws.proofs.HeadStays.{head_stays}
 use Rattle.request_laws.proofs.HeadSound.{sound}

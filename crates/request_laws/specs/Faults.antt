@@ -16,13 +16,13 @@ use Rattle.message.specs.declared.framing.Size.{Size}
 use Rattle.message.specs.declared.framing.Size.TheVariants.{Length, Chunked}
 use Rattle.message_laws.specs.Breaks.{Breaks}
 use Rattle.message_laws.specs.ChunkFaults.{ChunksBreak}
-use Rattle.request.specs.Canonical.{Req, carries_body, body_limit, head_limit, field_limit, canonical_method, begins_with_slash, first_line}
+use Rattle.request.specs.Canonical.{carries_body, body_limit, head_limit, field_limit, canonical_method, begins_with_slash, first_line}
 use Rattle.request.specs.Heads.{window}
 use Rattle.request.specs.Writing.{head_length}
 use Rattle.request.specs.Places.{Piece, Place, good_part, target_of}
 use Rattle.request.specs.Targets.{code_value, good_code}
 use Rattle.request_laws.specs.Targets.{PartSpelled, PartsSpelled, PathSpelled, TargetSpelled}
-use Rattle.request_laws.specs.Lines.{FieldSpelled, Named, Unframing, SizeSpelled, Only, Hostless, HostSpelled}
+use Rattle.request_laws.specs.Lines.{FieldSpelled, Named, Unframing, SizeSpelled, Hostless, HostSpelled}
 use Rattle.request_laws.specs.Grammar.{BodySpelled}
 
 -- LINES

@@ -1,11 +1,10 @@
 -- What the reading of clients' bytes means. Each is a type; a proof of the type is the theorem.
-use Rattle.std.specs.Prelude.{◌≡◌, ℕ, ◌+◌, ◌^◌, ◌<◌, T, List, [], ◌∷◌, ◌++◌, length, Ok, Err, Result, ◌≢◌}
+use Rattle.std.specs.Prelude.{◌≡◌, ℕ, ◌^◌, ◌<◌, T, List, [], ◌∷◌, ◌++◌, length, Ok, Err, Result, ◌≢◌}
 use Rattle.text.specs.Bytes.{Text}
 use Rattle.text_laws.specs.Laws.{Iff}
 use Rattle.message.specs.declared.fault.Unfit.{Unfit}
 use Rattle.request.specs.Canonical.{Req, canonical, write}
 use Rattle.request.specs.Found.{Finding, passed, more, fault, found_in}
-use Rattle.request.specs.Heads.{window}
 use Rattle.request.specs.Places.{Place, good_place, target_of}
 use Rattle.request.specs.Reading.{After, after, further, memory_size, fed_of, held_by}
 use Rattle.request.specs.declared.reading.Fed.{Fed}

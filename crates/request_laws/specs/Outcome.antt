@@ -10,7 +10,7 @@ use Rattle.message.specs.declared.chunked.Outcome.{Outcome as Chunked}
 use Rattle.message.specs.declared.chunked.Outcome.TheVariants.{More, Whole, Wrong}
 use Rattle.message.specs.declared.fault.Flaw.{Flaw}
 use Rattle.request.specs.Canonical.{Req, field_limit}
-use Rattle.request.specs.Found.{Finding, passed, more, fault, limited}
+use Rattle.request.specs.Found.{Finding, more, fault, limited}
 use Rattle.request.specs.Heads.{window, judged}
 use Rattle.request.specs.Reading.{target_in}
 use Rattle.request.specs.Targets.{check_target, undone}
