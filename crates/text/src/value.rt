@@ -38,7 +38,7 @@ pub fn trim<'a>(v: &'a [u8]) -> &'a [u8]
 }
 
 // What a byte of a value becomes where the byte before was one of a run of spaces and tabs, or was not.
-pub fn squeezed_byte(run: bool, b: u8) -> Option<u8>
+pub(crate) fn squeezed_byte(run: bool, b: u8) -> Option<u8>
     ensures { result ≡ squeezed_byte run b }
 {
     if !is_blank(b) {
