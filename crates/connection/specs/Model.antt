@@ -71,34 +71,26 @@ has_room c = nat_lt (length c.waiting) owner_limit && nat_lt (length c.sent) sen
 
 -- a request goes out at once, and its owner waits behind the others
 abbrev pub asked : ℕ → Req → Conn → Conn
-asked p q c = record {
+asked p q c = record c {
   waiting = c.waiting ++ (record { client = p; number = length c.sent; method = q.method } ∷ []);
-  part = c.part;
-  given = c.given;
-  told = c.told;
   sent = c.sent ++ (record { client = p; request = q } ∷ []);
-  used = c.used;
-  up = c.up;
 }
 
 -- for good: all who wait are told, and what had come of a response is dropped
 abbrev pub down : Conn → Conn
-down c = record { waiting = []; part = []; given = c.given; told = c.waiting; sent = c.sent; used = c.used; up = false }
+down c = record c { waiting = []; part = []; told = c.waiting; up = false }
 
 -- the bytes s come
 abbrev pub put : Text → Conn → Conn
-put s c = record { waiting = c.waiting; part = c.part ++ s; given = c.given; told = c.told; sent = c.sent; used = c.used; up = c.up }
+put s c = record c { part = c.part ++ s }
 
 -- the first owner, o, is given a whole response, and leaves if it is the last; behind it wait os, and the bytes rest are left
 abbrev pub gave : Owner → Response → List Owner → Text → Conn → Conn
-gave o a os rest c = record {
+gave o a os rest c = record c {
   waiting = cond a.last os (o ∷ os);
   part = rest;
   given = c.given ++ (record { to = o; from = c.used; response = a } ∷ []);
-  told = c.told;
-  sent = c.sent;
   used = c.used + (length c.part - length rest);
-  up = c.up;
 }
 
 -- what is to happen with the bytes that have come: nothing until more come, the first owner is given a response, or the connection goes down

@@ -4,47 +4,35 @@
 ghost use Rattle.std.specs.Prelude.{◌≡◌, [], length};
 ghost use Rattle.text.specs.Bytes.{Text};
 ghost use Rattle.request.specs.Reading.{memory_size};
-ghost use Rattle.connection.specs.Model.{Ear, Steady};
-ghost use Rattle.connection.specs.Hearing.{Within, Hears};
+ghost use Rattle.connection.specs.Model.{Steady};
+ghost use Rattle.connection.specs.Hearing.{Way, Within, Hears};
 
-// What a piece brought.
-#[derive(Clone, Copy)]
+// What a piece brought. Three outcomes, of which none ends the caller: what cannot be read is told to all who wait.
+#[derive(Clone, Copy, Debug, PartialEq, Eq)]
 pub enum Heard {
     // all of it was taken, and more is wanted
     More,
     // with so many bytes of it the response is whole; whether it is the last one to its request
-    Whole(usize, bool),
+    Whole { taken: usize, last: bool },
     // the response cannot be read
     Unreadable,
 }
 
 pub trait Hearing: Copy {
-    // how responses are read, all at once
-    ghost ear: { Ear };
-
-    // this state and this memory hold this part of a response to a request of this method: state, memory, method, part
-    ghost holds: { Self → Text → Text → Text → Type 0 };
-
-    // the response that a state and a memory hold where it is whole, as it goes to the client
-    ghost text: { Self → Text → Text };
-
-    // what a piece leaves in the memory: state, memory, method, piece
-    ghost leaves: { Self → Text → Text → Text → Text };
-
-    // the state before the first byte
-    ghost unheard: { Self };
+    // how responses are read, all at once and piece by piece
+    ghost way: { Way Self };
 
     fn start() -> Self
-        ensures { result ≡ unheard };
+        ensures { result ≡ way.unheard };
 
     // Reads a piece of a response to a request of this method: takes what belongs to the response in hand, and no byte behind it.
     fn hear(self, method: &[u8], memory: &mut [u8], piece: &[u8]) -> (Self, Heard)
         ensures within { Within (length piece.now) result.1 }
-        ensures left { memory.new ≡ leaves self memory.old method.now piece.now }
-        ensures heard { (part : Text) → length memory.old ≡ memory_size → holds self memory.old method.now part → Hears ear method.now part piece.now (holds result.0 memory.new method.now) (text result.0 memory.new) result.1 };
+        ensures left { memory.new ≡ way.leaves self memory.old method.now piece.now }
+        ensures heard { (part : Text) → length memory.old ≡ memory_size → way.holds self memory.old method.now part → Hears way method.now part piece.now result.0 memory.new result.1 };
 
-    ghost steady: { Steady ear };
+    ghost steady: { Steady way.ear };
 
     // before the first byte, whatever the memory holds, nothing has come
-    ghost begins: { (memory method : Text) → holds unheard memory method [] };
+    ghost begins: { (memory method : Text) → way.holds way.unheard memory method [] };
 }

@@ -1,15 +1,29 @@
-// The owners that wait on a connection, in a ring of 64 places: the first place, and how many wait from there on, round the end.
-ghost use Rattle.std.specs.Prelude.{◌≡◌, ◌<◌, ◌≤◌, length};
+// The owners that wait on a connection, in a ring of 64 places: the first place, and how many wait from there on, round the end. The places lie in
+// the value itself, since this library takes no memory of its own.
+use std::marker::Model;
 
+mod method;
 pub mod ring;
 
-// Whose request waits for its response: the client, the request's number on this connection, from 0, and its method, of at most 16 letters.
+use method::Method;
+
+// Whose request waits for its response: the client, the request's number on this connection, from 0, and its method.
 #[derive(Clone, Copy)]
 pub struct Owner {
     pub client: usize,
     pub number: u64,
-    pub letters: [u8; 16],
-    pub method_len: usize,
+    method: Method,
+}
+
+// Clauses see the owner of the model.
+impl Model for Owner {
+    ghost use Rattle.connection.specs.Model.{Owner as Whose};
+
+    ghost Value = { Whose };
+
+    ghost view = { λ o. record { client = o.client; number = o.number; method = o.method } };
+
+    ghost inverse = { λ o. record { client = o.client; number = o.number; method = o.method } };
 }
 
 #[derive(Drop)]
@@ -17,7 +31,18 @@ pub struct Owners {
     places: [Owner; 64],
     first: usize,
     count: usize,
-    ghost places_ok: { length places ≡ 64 },
-    ghost first_ok: { first < 64 },
-    ghost count_ok: { count ≤ 64 },
+}
+
+// Clauses see the owners that wait, first to last.
+impl Model for Owners {
+    ghost use Rattle.std.specs.Prelude.{List};
+    ghost use Rattle.connection.specs.Model.{Owner as Whose};
+
+    ghost Value = { List Whose };
+
+    ghost use Rattle.connection.specs.Owners.{queued, IsRing};
+
+    ghost view = { λ q. queued q.places q.first q.count };
+
+    ghost invariant = { λ q. IsRing q.places q.first q.count };
 }

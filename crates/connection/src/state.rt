@@ -1,13 +1,13 @@
-// A connection, by value. What may happen next is told apart by type: a connection that is at rest may be asked and may hear a piece; one that has
+// A connection. What may happen next is told apart by type: a connection that is at rest may be asked and may hear a piece; one that has
 // heard a piece hands over, one by one, the responses that are whole; one that goes down tells all who wait, one by one. So a request can only go out
 // where all that was whole has been handed over, and a byte that has come can never reach an owner who asks later.
-ghost use Rattle.std.specs.Prelude.{◌≡◌, ℕ, ◌+◌, ◌<◌, true, false, List, if◌then◌else◌};
+ghost use Rattle.std.specs.Prelude.{◌≡◌, ◌+◌, ◌<◌, false, List, drop, if◌then◌else◌};
 ghost use Rattle.text.specs.Bytes.{Text};
 ghost use Rattle.request.specs.SentWriting.{view_sent_request};
 ghost use Rattle.connection.specs.Model.{Conn, fresh, sent_limit};
 ghost use Rattle.connection.specs.Model.{Owner as Whose};
-ghost use Rattle.connection.specs.Owners.{queued, behind, pushed};
-ghost use Rattle.connection.specs.Stands.{come, refusal_of, left_by, Stands, Pends, Falls, AskedSo, TellsSo, NextSo};
+ghost use Rattle.connection.specs.Owners.{pushed};
+ghost use Rattle.connection.specs.Stands.{come, admission_of, left_by, Stands, Pends, Falls, AskedSo, TellsSo, NextSo};
 
 use crate::hearing::{Heard, Hearing};
 use crate::owners::{Owner, Owners};
@@ -16,7 +16,8 @@ use request::canonical::Full;
 use request::reading::MEMORY;
 use request::sent::SentRequest;
 
-// Who waits, how many requests went out, how far the response in hand has been read, and whether the connection is up.
+// Who waits, how many requests went out, how far the response in hand has been read, and whether the connection is up: a flag and no type of its own,
+// since a connection that is down is asked and hears as one that is up.
 #[derive(Drop)]
 pub struct Connection<H> {
     owners: Owners,
@@ -57,11 +58,9 @@ pub enum Next<'p, H> {
     Rest(Idle<H>),
     // the end of the connection
     Fall(Falling<H>),
-    // the memory lent is not of its size, and nothing was done
-    Unfit(Busy<'p, H>),
 }
 
-// What comes next on a connection that went down.
+// What comes next on a connection that went down. Its own enum and no Result, since neither end is an error.
 #[derive(Drop)]
 pub enum Telling<H> {
     // this owner is told
@@ -81,69 +80,80 @@ pub enum Unsent {
     Method,
 }
 
+impl From<Fault> for Unsent {
+    ghost use Rattle.std.specs.Prelude.{◌≡◌};
+    ghost use Rattle.connection.specs.declared.state.Unsent.TheVariants.{Refused};
+
+    ghost from_gives = { λ fault unsent. unsent ≡ Refused fault };
+
+    fn from(fault: Fault) -> Unsent {
+        Unsent::Refused(fault)
+    }
+}
+
+impl From<Full> for Unsent {
+    ghost use Rattle.std.specs.Prelude.{◌≡◌};
+    ghost use Rattle.connection.specs.declared.state.Unsent.TheVariants.{Full as TooShort};
+
+    ghost from_gives = { λ full unsent. unsent ≡ TooShort full };
+
+    fn from(full: Full) -> Unsent {
+        Unsent::Full(full)
+    }
+}
+
 impl<H: Hearing> Connection<H> {
-    // Why no request goes out, if so.
-    fn refusal(&self) -> Option<Fault>
-        ensures { result ≡ refusal_of self.now }
+    // Whether a request goes out, or why none does.
+    fn admits(&self) -> Result<(), Fault>
+        ensures { result ≡ admission_of self.now }
     {
         if !self.up {
-            return Some(Fault::Down);
+            return Err(Fault::Down);
         }
         if self.owners.is_full() || self.sent == u64::MAX {
-            return Some(Fault::Busy);
+            return Err(Fault::Busy);
         }
-        None
+        Ok(())
     }
 
     // One more request went out, and its owner waits.
-    fn waits_for(mut self, owner: Owner) -> Connection<H>
-        requires { self.sent < sent_limit }
-        ensures queue { queued result.owners ≡ pushed (queued self.owners) owner }
-        ensures counts { result.sent ≡ self.sent + 1 }
-        ensures rest { (result.up ≡ self.up) × (result.hearing ≡ self.hearing) }
+    fn waits_for(&mut self, owner: Owner)
+        requires { self.old.sent < sent_limit }
+        ensures { self.new ≡ record self.old { owners = pushed self.old.owners owner; sent = self.old.sent + 1 } }
     {
-        self.owners.push(owner);
+        let _ = self.owners.push(owner);
         self.sent += 1;
-        self
-    }
-
-    // How far the response in hand has been read now.
-    fn hears(mut self, hearing: H) -> Connection<H>
-        ensures queue { queued result.owners ≡ queued self.owners }
-        ensures rest { (result.sent ≡ self.sent) × (result.up ≡ self.up) }
-        ensures heard { result.hearing ≡ hearing }
-    {
-        self.hearing = hearing;
-        self
     }
 
     // The first owner was given a response, and leaves if it was the last.
     fn gave(mut self, last: bool) -> Connection<H>
-        ensures queue { queued result.owners ≡ (if last then behind (queued self.owners) else queued self.owners) }
-        ensures rest { (result.sent ≡ self.sent) × (result.up ≡ self.up) }
-        ensures heard { result.hearing ≡ H.Hearing.unheard }
+        ensures { result ≡ record self { owners = if last then drop 1 self.owners else self.owners; hearing = H.way.unheard } }
     {
         if last {
             self.owners.pop();
         }
-        self.hears(H::start())
+        Connection {
+            hearing: H::start(),
+            ..self
+        }
     }
 
     // The connection goes down, for good.
-    fn fall(mut self) -> Falling<H>
-        ensures queue { queued result.0.owners ≡ queued self.owners }
-        ensures rest { (result.0.sent ≡ self.sent) × (result.0.up ≡ false) }
-        ensures heard { result.0.hearing ≡ H.Hearing.unheard }
+    fn fall(self) -> Falling<H>
+        ensures { result.0 ≡ record self { hearing = H.way.unheard; up = false } }
     {
-        self.up = false;
-        Falling(self.hears(H::start()))
+        Falling(Connection {
+            hearing: H::start(),
+            up: false,
+            ..self
+        })
     }
 }
 
 impl<H: Hearing> Idle<H> {
     // Nothing was asked yet.
     pub fn new() -> Idle<H>
-        ensures { (memory : Text) → Stands H.Hearing.unheard H.Hearing.holds result.0 memory fresh }
+        ensures { (memory : Text) → Stands H.way result.0 memory fresh }
     {
         Idle(Connection {
             owners: Owners::new(),
@@ -163,29 +173,24 @@ impl<H: Hearing> Idle<H> {
     // A client asks: where the connection is up and there is room, the request goes out at once, whole, at the front of `out`, and its owner waits behind
     // the others. Says how many bytes went out, or why none did.
     pub fn ask(
-        self,
+        &mut self,
         client: usize,
         request: &SentRequest,
         out: &mut [u8],
-    ) -> (Idle<H>, Result<usize, Unsent>)
-        ensures { AskedSo H.Hearing.unheard H.Hearing.holds H.Hearing.ear client (view_sent_request request.now) out.old out.new self.0 result.0.0 result.1 }
+    ) -> Result<usize, Unsent>
+        ensures { AskedSo H.way client (view_sent_request request.now) out.old out.new self.old.0 self.new.0 result }
     {
-        let Idle(connection) = self;
-        if let Some(fault) = connection.refusal() {
-            return (Idle(connection), Err(Unsent::Refused(fault)));
-        }
-        let Some(owner) = Owner::new(client, connection.sent, request.method) else {
-            return (Idle(connection), Err(Unsent::Method));
-        };
-        match request.write(out) {
-            Ok(n) => (Idle(connection.waits_for(owner)), Ok(n)),
-            Err(full) => (Idle(connection), Err(Unsent::Full(full))),
-        }
+        let connection = &mut self.0;
+        connection.admits()?;
+        let owner = Owner::new(client, connection.sent, request.method).ok_or(Unsent::Method)?;
+        let n = request.write(out)?;
+        connection.waits_for(owner);
+        Ok(n)
     }
 
     // The server says something.
     pub fn hear<'p>(self, piece: &'p [u8]) -> Busy<'p, H>
-        ensures { (memory : Text) (c : Conn) → Stands H.Hearing.unheard H.Hearing.holds self.0 memory c → Pends H.Hearing.unheard H.Hearing.holds result memory (come piece.now c) }
+        ensures { (memory : Text) (c : Conn) → Stands H.way self.0 memory c → Pends H.way result memory (come piece.now c) }
     {
         let Idle(connection) = self;
         Busy { connection, piece }
@@ -193,29 +198,34 @@ impl<H: Hearing> Idle<H> {
 }
 
 impl<'p, H: Hearing> Busy<'p, H> {
-    // What comes next: responses are read by the method of the first owner that waits.
-    pub fn next(self, memory: &mut [u8]) -> Next<'p, H>
-        ensures turns { (c : Conn) → Pends H.Hearing.unheard H.Hearing.holds self.entry memory.old c → NextSo H.Hearing.unheard H.Hearing.holds H.Hearing.ear H.Hearing.text memory.old memory.new c result }
-        ensures left { memory.new ≡ left_by H.Hearing.leaves self.entry memory.old }
+    // What comes next: responses are read by the method of the first owner that waits. Where the memory lent is not of its size, nothing is done, and
+    // the connection is given back.
+    #[tactic(auto, unfolding(request::specs::Reading::memory_size))]
+    pub fn next(self, memory: &mut [u8]) -> Result<Next<'p, H>, Busy<'p, H>>
+        ensures turns { (c : Conn) → Pends H.way self.entry memory.old c → NextSo H.way memory.old memory.new c result }
+        ensures left { memory.new ≡ left_by H.way self.entry memory.old }
     {
         if memory.len() != MEMORY {
-            return Next::Unfit(self);
+            return Err(self);
         }
         let Busy { connection, piece } = self;
         if !connection.up {
-            return Next::Rest(Idle(connection));
+            return Ok(Next::Rest(Idle(connection)));
         }
         let Some(owner) = connection.owners.first() else {
             if piece.is_empty() {
-                return Next::Rest(Idle(connection));
+                return Ok(Next::Rest(Idle(connection)));
             }
-            return Next::Fall(connection.fall());
+            return Ok(Next::Fall(connection.fall()));
         };
         let (hearing, heard) = connection.hearing.hear(owner.method(), memory, piece);
         match heard {
-            Heard::More => Next::Rest(Idle(connection.hears(hearing))),
-            Heard::Unreadable => Next::Fall(connection.fall()),
-            Heard::Whole(taken, last) => Next::Hand(
+            Heard::More => Ok(Next::Rest(Idle(Connection {
+                hearing,
+                ..connection
+            }))),
+            Heard::Unreadable => Ok(Next::Fall(connection.fall())),
+            Heard::Whole { taken, last } => Ok(Next::Hand(
                 Busy {
                     connection: connection.gave(last),
                     piece: &piece[taken..],
@@ -225,7 +235,7 @@ impl<'p, H: Hearing> Busy<'p, H> {
                     last,
                     response: hearing,
                 },
-            ),
+            )),
         }
     }
 }
@@ -233,7 +243,7 @@ impl<'p, H: Hearing> Busy<'p, H> {
 impl<H: Hearing> Falling<H> {
     // The next owner who is to be told that the connection is down, in order.
     pub fn tell(self) -> Telling<H>
-        ensures { (c : Conn) (done : List Whose) → Falls H.Hearing.unheard H.Hearing.holds self c done → TellsSo H.Hearing.unheard H.Hearing.holds c done result }
+        ensures { (c : Conn) (done : List Whose) → Falls H.way self c done → TellsSo H.way c done result }
     {
         let Falling(mut connection) = self;
         match connection.owners.pop() {

@@ -5,42 +5,24 @@
 use script::problem::Problem;
 use script::progress::Script;
 use script::statement::Statement;
-use std::alloc::Global;
+use std::io;
 use std::io::{BufRead, BufReader};
 use std::process::ExitCode;
-use std::{fmt, io};
+use thiserror::Error;
 
-// Why a run ended before its script did.
-#[derive(Drop)]
+// Why a run ended before its script did. `explain` has more reasons, and a file's name with them.
+#[derive(Debug, Drop, Error)]
 enum Stop {
     // a line, by its number from 1 on, and what is wrong with it
+    #[error("line {0}: {1}")]
     Line(u64, Problem),
-    Io(io::Error),
-}
-
-impl fmt::Display for Stop {
-    fn fmt<W: fmt::Write>(&self, f: &mut fmt::Formatter<W>) -> fmt::Result {
-        match self {
-            Stop::Line(number, problem) => write!(f, "line {number}: {problem}"),
-            Stop::Io(error) => write!(f, "{error}"),
-        }
-    }
-}
-
-impl From<io::Error> for Stop {
-    fn from(error: io::Error) -> Stop {
-        Stop::Io(error)
-    }
+    #[error(transparent)]
+    Io(#[from] io::Error),
 }
 
 // One line of the script, without its end. `bytes` is left with what an event sends.
-fn play(
-    heap: Global,
-    script: &mut Script,
-    line: &[u8],
-    bytes: &mut Vec<u8>,
-) -> Result<(), Problem> {
-    match script.read_line(heap, line)? {
+fn play(script: &mut Script, line: &[u8], bytes: &mut Vec<u8>) -> Result<(), Problem> {
+    match script.read_line(line)? {
         Statement::Event(event) => event.payload.decode(bytes),
         _ => Ok(()),
     }
@@ -51,6 +33,7 @@ fn run(rt: &HostRuntime) -> Result<(), Stop> {
     let mut input = BufReader::new(rt.alloc(), rt.stdin())?;
     let mut line = Vec::new(rt.alloc());
     let mut bytes = Vec::new(rt.alloc());
+    // no `split`: with a line made anew for each turn a million short events take a third longer
     for number in 1..u64::MAX {
         line.clear();
         if input.read_until(b'\n', &mut line)? == 0 {
@@ -59,9 +42,7 @@ fn run(rt: &HostRuntime) -> Result<(), Stop> {
         if line.last() == Some(&b'\n') {
             let _ = line.pop();
         }
-        if let Err(problem) = play(rt.alloc(), &mut script, &line, &mut bytes) {
-            return Err(Stop::Line(number, problem));
-        }
+        play(&mut script, &line, &mut bytes).map_err(|problem| Stop::Line(number, problem))?;
     }
     Ok(())
 }

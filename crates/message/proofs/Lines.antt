@@ -1,10 +1,9 @@
 -- Lines of fields, one more at the end.
-use Rattle.std.proofs.Common.{◌≡◌, ℕ, ◌+◌, ◌<◌, ◌≤◌, List, [], ◌∷◌, ◌++◌, length, get_or, take, sym, refl, ap, ◌∙◌, append_assoc}
-use Rattle.std.proofs.lemmas.List.{map_more, take_all}
+use Rattle.std.proofs.Common.{◌≡◌, ℕ, ◌+◌, ◌<◌, List, [], ◌∷◌, ◌++◌, length, get_or, take, sym, refl, ap, ◌∙◌, append_assoc}
+use Rattle.std.proofs.lemmas.List.{map_more}
 use Rattle.text.specs.Bytes.{Text}
 use Rattle.message.specs.Fields.{Field, line_of, field_lines, lines_of}
-use Rattle.message.specs.Views.{view_field, view_fields, field_line, field_bytes}
-use Rattle.message.specs.declared.field.Field.{Field as Held}
+use Rattle.message.specs.Views.{fields_by, field_line, field_bytes}
 
 pub field_lines_append : (fs gs : List Field) → field_lines (fs ++ gs) ≡ field_lines fs ++ field_lines gs
 unfolding field_lines
@@ -21,10 +20,11 @@ pub field_bytes_push : (fs : List Field) (f : Field) → field_bytes (fs ++ (f �
 unfolding field_lines
 field_bytes_push fs f = ap lines_of (field_lines_append fs (f ∷ [])) ∙ lines_of_append (field_lines fs) (field_lines (f ∷ []))
 
--- the same at a step of a loop over what the code holds
-pub field_bytes_more : (fs : List Held) (i : ℕ) (d : Held) → i < length fs → field_bytes (view_fields (take (i + 1) fs)) ≡ field_bytes (view_fields (take i fs)) ++ field_line (view_field (get_or fs i d))
-field_bytes_more fs i d h = ap field_bytes (map_more view_field fs i d h) ∙ field_bytes_push (view_fields (take i fs)) (view_field (get_or fs i d))
+-- the same at a step of a loop over what holds them, at its element x
+pub field_bytes_more : {F : Type 0} (view : F → Field) (fs : List F) (i : ℕ) (x : F) → i < length fs → x ≡ get_or fs i x → field_bytes (fields_by view (take i fs)) ++ field_line (view x) ≡ field_bytes (fields_by view (take (i + 1) fs))
+field_bytes_more view fs i x h is = ap (λ y. field_bytes (fields_by view (take i fs)) ++ field_line (view y)) is ∙ sym (ap field_bytes (map_more view fs i x h) ∙ field_bytes_push (fields_by view (take i fs)) (view (get_or fs i x)))
 
--- and at its end
-pub field_bytes_all : (fs : List Held) (i : ℕ) → length fs ≤ i → field_bytes (view_fields (take i fs)) ≡ field_bytes (view_fields fs)
-field_bytes_all fs i h = ap (λ gs. field_bytes (view_fields gs)) (take_all i fs h)
+-- the line of a field from its parts
+pub line_parts : (f : Field) → ((f.name ++ (58 ∷ 32 ∷ [])) ++ f.value) ++ (13 ∷ 10 ∷ []) ≡ field_line f
+unfolding lines_of
+line_parts f = simp append_assoc

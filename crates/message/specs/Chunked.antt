@@ -5,6 +5,7 @@ use Rattle.text.specs.Numerals.{digit_value}
 use Rattle.text.specs.declared.numeral.Base.TheVariants.{Hexadecimal}
 use Rattle.message.specs.Faults.{flaw}
 use Rattle.message.specs.declared.fault.Fault.TheVariants.{BodyTooLong, Chunk as BadChunk}
+use Rattle.message.specs.declared.fault.Flaw.{Flaw}
 use Rattle.message.specs.declared.fault.Unfit.{Unfit}
 use Rattle.message.specs.declared.chunked.Phase.{Phase}
 use Rattle.message.specs.declared.chunked.Phase.TheVariants.{Size, SizeLf, Bytes, BytesLf, LastCr, LastLf}
@@ -13,7 +14,7 @@ use Rattle.message.specs.declared.chunked.Outcome.{Outcome}
 use Rattle.message.specs.declared.chunked.Outcome.TheVariants.{More, Whole, Wrong}
 use Rattle.message.specs.declared.chunked.Fed.{Fed}
 use Rattle.message.specs.declared.chunked.Step.{Step}
-use Rattle.message.specs.declared.chunked.Step.TheVariants.{On, End, Bad}
+use Rattle.message.specs.declared.chunked.Step.TheVariants.{On, End}
 
 -- the most bytes that a body may have
 unfoldable pub most_bytes : ℕ
@@ -32,35 +33,40 @@ abbrev pub to : Chunk → Phase → Step
 to s p = On (in_phase p s.room (s.read + 1))
 
 -- the byte is wrong
-abbrev pub bad : Chunk → Step
-bad s = Bad (flaw BadChunk s.read)
+abbrev pub wrong_byte : Chunk → Flaw
+wrong_byte s = flaw BadChunk s.read
 
 -- the byte must be this one
-abbrev pub only : ℕ → Chunk → ℕ → Step → Step
-only mark s b next = cond (b == mark) next (bad s)
+abbrev pub only : {A : Type 0} → ℕ → Chunk → ℕ → Result A Flaw → Result A Flaw
+only mark s b next = cond (b == mark) next (Err (wrong_byte s))
+
+-- what a byte does: a step, unless it is wrong
+abbrev pub Stepped : Type 0
+Stepped = Result Step Flaw
 
 -- a digit of a size, of which there may be 5, or the CR after at least one. Fewer than 5 digits are worth less than 65536, so that bound says nothing
 -- of states that reading leads to; it keeps the sum in bounds in any other
-abbrev pub on_size : Chunk → ℕ → ℕ → ℕ → ℕ → Option ℕ → Step
-on_size s first digits value b (Some d) = cond (nat_lt digits 5 && nat_lt value 65536) (to s (Size first (digits + 1) (value * 16 + d))) (bad s)
-on_size s first digits value b None = cond (b == 13 && nat_lt 0 digits) (to s (SizeLf first value)) (bad s)
+abbrev pub on_size : Chunk → ℕ → ℕ → ℕ → ℕ → Option ℕ → Stepped
+on_size s first digits value b (Some d) =
+    cond (nat_lt digits 5 && nat_lt value 65536) (Ok (to s (Size first (digits + 1) (value * 16 + d)))) (Err (wrong_byte s))
+on_size s first digits value b None = cond (b == 13 && nat_lt 0 digits) (Ok (to s (SizeLf first value))) (Err (wrong_byte s))
 
 -- the line of a size has ended: is it the last, is there room, or is it too large
-abbrev pub sized : Chunk → ℕ → ℕ → Step
+abbrev pub sized : Chunk → ℕ → ℕ → Stepped
 sized s first value =
-    cond (value == 0) (to s LastCr)
-    (cond (nat_le value s.room) (On (in_phase (Bytes value) (s.room - value) (s.read + 1))) (Bad (flaw BodyTooLong first)))
+    cond (value == 0) (Ok (to s LastCr))
+    (cond (nat_le value s.room) (Ok (On (in_phase (Bytes value) (s.room - value) (s.read + 1)))) (Err (flaw BodyTooLong first)))
 
 -- what a byte does in each phase, where no byte of a chunk is due
-abbrev pub on_byte : Phase → Chunk → ℕ → Step
+abbrev pub on_byte : Phase → Chunk → ℕ → Stepped
 on_byte (Size first digits value) s b = on_size s first digits value b (digit_value Hexadecimal b)
 on_byte (SizeLf first value) s b = only 10 s b (sized s first value)
-on_byte (Bytes left) s b = only 13 s b (to s BytesLf)
-on_byte BytesLf s b = only 10 s b (to s (Size (s.read + 1) 0 0))
-on_byte LastCr s b = only 13 s b (to s LastLf)
-on_byte LastLf s b = only 10 s b (End (in_phase LastLf s.room (s.read + 1)))
+on_byte (Bytes left) s b = only 13 s b (Ok (to s BytesLf))
+on_byte BytesLf s b = only 10 s b (Ok (to s (Size (s.read + 1) 0 0)))
+on_byte LastCr s b = only 13 s b (Ok (to s LastLf))
+on_byte LastLf s b = only 10 s b (Ok (End (in_phase LastLf s.room (s.read + 1))))
 
-abbrev pub step_of : Chunk → ℕ → Step
+abbrev pub step_of : Chunk → ℕ → Stepped
 step_of s b = on_byte s.phase s b
 
 -- how many bytes of the chunk are due
@@ -95,10 +101,10 @@ abbrev pub stop : Chunk → ℕ → Outcome → Run
 stop s n o = record { chunk = s; body = []; taken = n; outcome = o }
 
 -- a step, and the run that goes on after it; a byte that is wrong is not read
-abbrev pub go : Chunk → Step → (Chunk → Run) → Run
-go s (On t) k = after [] 1 (k t)
-go s (End t) k = stop t 1 Whole
-go s (Bad f) k = stop s 0 (Wrong f)
+abbrev pub go : Chunk → Stepped → (Chunk → Run) → Run
+go s (Ok (On t)) k = after [] 1 (k t)
+go s (Ok (End t)) k = stop t 1 Whole
+go s (Err f) k = stop s 0 (Wrong f)
 
 -- a byte that is due is the body's; any other is a step
 unfoldable pub run : Chunk → Text → Run

@@ -1,5 +1,6 @@
 -- Fields that are not sent on: those that concern one connection only, and the two that frame the body, which is framed anew. RFC 9110, 7.6.1.
-use Rattle.std.specs.Prelude.{Bool, false, cond, not, ◌&&◌, ◌||◌, List, [], ◌∷◌, map, codes}
+use Rattle.std.specs.Prelude.{Bool, cond, not, ◌&&◌, ◌||◌, List, [], ◌∷◌, map, codes}
+use Rattle.std.specs.List.{list_any}
 use Rattle.text.specs.Bytes.{Text, lowered, same_no_case, among}
 use Rattle.text.specs.Marks.{split}
 use Rattle.text.specs.Trims.{trimmed, squeezed}
@@ -11,23 +12,17 @@ use Rattle.message.specs.declared.sent.Line.{Line}
 abbrev pub hop_by_hop : Text → Bool
 hop_by_hop name = among (lowered name) dropped
 
--- one of the texts, but for case and the blanks at their ends
-unfoldable pub among_tokens : Text → List Text → Bool
-among_tokens name [] = false
-among_tokens name (t ∷ ts) = same_no_case (trimmed t) name || among_tokens name ts
-
--- between the commas of a list. RFC 9110, 7.6.1: Connection = #connection-option
+-- between the commas of a list, but for case and the blanks at its ends. RFC 9110, 7.6.1: Connection = #connection-option
 abbrev pub token_in : Text → Text → Bool
-token_in name list = among_tokens name (split 44 list)
+token_in name list = list_any (λ t. same_no_case (trimmed t) name) (split 44 list)
 
 -- a `connection` field that names it
 abbrev pub names : Text → Field → Bool
 names name f = same_no_case f.name (codes "connection") && token_in name f.value
 
 -- one of the fields is such a one
-unfoldable pub named_by : Text → List Field → Bool
-named_by name [] = false
-named_by name (f ∷ fs) = names name f || named_by name fs
+abbrev pub named_by : Text → List Field → Bool
+named_by name fs = list_any (names name) fs
 
 -- not sent on; `host` always is
 abbrev pub is_dropped : List Field → Text → Bool

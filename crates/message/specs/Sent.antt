@@ -1,17 +1,16 @@
 -- The field lines of a head as they were sent: which are good, what they say, and what is wrong with the first that is not.
-use Rattle.std.specs.Prelude.{ℕ, zero, suc, ◌+◌, ◌<◌, ◌≤◌, Bool, true, false, cond, not, ◌||◌, List, [], ◌∷◌, ◌++◌, map, length, take, drop, Ok, Err, Result, ◌==◌, nat_le, nat_lt}
+use Rattle.std.specs.Prelude.{ℕ, zero, suc, ◌+◌, ◌<◌, ◌≤◌, Bool, true, false, cond, not, ◌||◌, List, [], ◌∷◌, ◌++◌, map, length, take, drop, Some, None, Ok, Err, Option, Result, ◌==◌, nat_le, nat_lt}
 use Rattle.std.specs.List.{prefix_len}
 use Rattle.text.specs.Bytes.{Text, name_byte, value_byte, blank}
 use Rattle.text.specs.Cuts.{LineCut, whole, short, stray, cut_line}
 use Rattle.text.specs.Marks.{before}
 use Rattle.text.specs.Trims.{trimmed}
 use Rattle.message.specs.Fields.{name_limit}
-use Rattle.message.specs.Faults.{flaw}
+use Rattle.message.specs.Faults.{flaw, onward}
 use Rattle.message.specs.declared.fault.Fault.TheVariants.{TooLong, FieldLine}
 use Rattle.message.specs.declared.fault.Flaw.{Flaw}
 use Rattle.message.specs.declared.sent.Line.{Line as HeldLine}
-use Rattle.message.specs.declared.sent.Found.{Found as HeldFound}
-use Rattle.message.specs.declared.sent.Found.TheVariants.{Ended, More, Wrong}
+use Rattle.message.specs.declared.sent.Fields.{Fields as HeldFields}
 
 -- a field as sent, its value without the blanks at its ends, with the places where its line and its value begin
 pub record Sent : Type 0 where
@@ -44,6 +43,10 @@ check_line (suc k) at l ended = check_field at l ended
 abbrev pub sent_at : ℕ → ℕ → Text → Sent
 sent_at at n l =
     record { name = take n l; value = trimmed (drop (n + 1) l); at = at; value_at = at + n + 1 + prefix_len blank (drop (n + 1) l) }
+
+-- the field in a line where k lines more are allowed, or what is wrong with it
+abbrev pub read_line : ℕ → ℕ → Text → Bool → Result Sent Flaw
+read_line k at l ended = onward (check_line k at l ended) (λ n. Ok (sent_at at n l))
 
 -- what reading field lines finds: all of them, and where the head ends; that more is wanted; or what is wrong
 pub data Found : Type 0 where
@@ -88,18 +91,15 @@ view_line l = record { name = l.field.name.now; value = l.field.value.now; at = 
 abbrev pub view_lines : List HeldLine → List Sent
 view_lines ls = map view_line ls
 
-abbrev pub view_found : HeldFound → Found
-view_found (Ended ls end) = ended (view_lines ls.now) end
-view_found More = more
-view_found (Wrong w) = wrong w
+abbrev pub view_read : Result HeldLine Flaw → Result Sent Flaw
+view_read (Ok l) = Ok (view_line l)
+view_read (Err w) = Err w
 
--- a colon stands inside its line, of n bytes
-abbrev pub ColonIn : ℕ → Result ℕ Flaw → Type 0
-ColonIn n (Ok colon) = colon < n
-ColonIn n (Err w) = Unit {0}
+abbrev pub view_found : Result (Option HeldFields) Flaw → Found
+view_found (Ok (Some f)) = ended (view_lines f.lines.now) f.end
+view_found (Ok None) = more
+view_found (Err w) = wrong w
 
 -- the fields fit a table of k, and the head ends behind start, inside its n bytes
-abbrev pub FoundIn : ℕ → ℕ → ℕ → HeldFound → Type 0
-FoundIn k start n (Ended ls end) = (length ls.now ≤ k) × (start < end) × (end ≤ n)
-FoundIn k start n More = Unit {0}
-FoundIn k start n (Wrong w) = Unit {0}
+abbrev pub FieldsIn : ℕ → ℕ → ℕ → HeldFields → Type 0
+FieldsIn k start n f = (length f.lines.now ≤ k) × (start < f.end) × (f.end ≤ n)

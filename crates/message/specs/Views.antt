@@ -7,8 +7,12 @@ use Rattle.message.specs.declared.field.Field.{Field as Held}
 abbrev pub view_field : Held → Field
 view_field f = record { name = f.name.now; value = f.value.now }
 
+-- fields by what each of them stands for
+abbrev pub fields_by : {F : Type 0} → (F → Field) → List F → List Field
+fields_by view fs = map view fs
+
 abbrev pub view_fields : List Held → List Field
-view_fields fs = map view_field fs
+view_fields fs = fields_by view_field fs
 
 -- the bytes of fields on the wire
 abbrev pub field_bytes : List Field → Text

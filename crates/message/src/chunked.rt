@@ -1,10 +1,10 @@
 // A chunked body, read in pieces as they come and written out with its chunks undone. A small state goes from piece to piece; the bytes of a
 // chunk are copied as they come, and every other byte is a step from one phase to the next.
 // RFC 9112, 7.1. Stricter: a size of at most 5 digits, no extensions, no trailer.
-ghost use Rattle.std.specs.Prelude.{◌≡◌, ◌+◌, ◌^◌, ◌<◌, ◌≤◌, length};
+ghost use Rattle.std.specs.Prelude.{Ok, ◌≡◌, ◌+◌, ◌^◌, ◌<◌, ◌≤◌, length};
 ghost use Rattle.text.specs.Numerals.{digit_value};
 ghost use Rattle.text.specs.declared.numeral.Base.TheVariants.{Hexadecimal};
-ghost use Rattle.message.specs.Chunked.{most_bytes, fresh, to, bad, only, on_size, sized, step_of, due_of, skipped, fits, fed, fed_by, held_by};
+ghost use Rattle.message.specs.Chunked.{most_bytes, fresh, to, wrong_byte, only, on_size, sized, step_of, due_of, skipped, fits, fed, fed_by, held_by};
 
 use crate::fault::{Fault, Flaw, Unfit};
 use text::numeral::Base;
@@ -43,7 +43,7 @@ pub struct Chunk {
     pub read: usize,
 }
 
-// How the reading of a piece ended.
+// How the reading of a piece ended. No Result, since `?` could not pass the fault on: what was read and written is told of a refused body too.
 #[derive(Clone, Copy)]
 pub enum Outcome {
     // all of it was read, and the body goes on
@@ -63,15 +63,127 @@ pub struct Fed {
     pub outcome: Outcome,
 }
 
-// What a byte does that is none of a chunk's own.
+// A byte that is none of a chunk's own leads on, or ends the body.
+#[derive(Clone, Copy)]
 pub enum Step {
     On(Chunk),
     End(Chunk),
-    Bad(Flaw),
+}
+
+// Such a byte, and the state that it comes in.
+#[derive(Clone, Copy)]
+struct Control {
+    state: Chunk,
+    byte: u8,
+    // the place behind it can be counted
+    ghost counted: { state.read + 1 < 2 ^ 64 },
+}
+
+impl Control {
+    // The byte is right, and the next is read in this phase.
+    fn to(self, phase: Phase) -> Step
+        ensures { result ≡ to self.state phase }
+    {
+        Step::On(Chunk {
+            phase,
+            room: self.state.room,
+            read: self.state.read + 1,
+        })
+    }
+
+    // The byte is wrong.
+    fn wrong(self) -> Flaw
+        ensures { result ≡ wrong_byte self.state }
+    {
+        Fault::Chunk.at(self.state.read)
+    }
+
+    // One byte must stand here.
+    fn only(self, mark: u8) -> Result<(), Flaw>
+        ensures { result ≡ only mark self.state self.byte (Ok tt) }
+    {
+        if self.byte == mark {
+            Ok(())
+        } else {
+            Err(self.wrong())
+        }
+    }
+
+    // A digit of a size, or the CR after it. The bound on the value holds wherever fewer than 5 digits were read, and keeps the sum small anywhere.
+    fn on_size(self, first: usize, digits: u8, value: usize) -> Result<Step, Flaw>
+        ensures { result ≡ on_size self.state first digits value self.byte (digit_value Hexadecimal self.byte) }
+    {
+        match Base::Hexadecimal.digit_value(self.byte) {
+            Some(d) if digits < 5 && value < 0x1_0000 => Ok(self.to(Phase::Size {
+                first,
+                digits: digits + 1,
+                value: value * 16 + usize::from(d),
+            })),
+            None if self.byte == b'\r' && digits > 0 => Ok(self.to(Phase::SizeLf { first, value })),
+            _ => Err(self.wrong()),
+        }
+    }
+
+    // The line of a size has ended.
+    fn sized(self, first: usize, value: usize) -> Result<Step, Flaw>
+        ensures { result ≡ sized self.state first value }
+    {
+        if value == 0 {
+            return Ok(self.to(Phase::LastCr));
+        }
+        if value > self.state.room {
+            return Err(Fault::BodyTooLong.at(first));
+        }
+        Ok(Step::On(Chunk {
+            phase: Phase::Bytes { left: value },
+            room: self.state.room - value,
+            read: self.state.read + 1,
+        }))
+    }
+
+    // What the byte does.
+    fn step(self) -> Result<Step, Flaw>
+        ensures { result ≡ step_of self.state self.byte }
+    {
+        let Chunk { phase, room, read } = self.state;
+        let read = read + 1;
+        match phase {
+            Phase::Size {
+                first,
+                digits,
+                value,
+            } => self.on_size(first, digits, value),
+            Phase::SizeLf { first, value } => {
+                self.only(b'\n')?;
+                self.sized(first, value)
+            }
+            Phase::Bytes { left: _ } => {
+                self.only(b'\r')?;
+                Ok(self.to(Phase::BytesLf))
+            }
+            Phase::BytesLf => {
+                self.only(b'\n')?;
+                Ok(self.to(Phase::Size {
+                    first: read,
+                    digits: 0,
+                    value: 0,
+                }))
+            }
+            Phase::LastCr => {
+                self.only(b'\r')?;
+                Ok(self.to(Phase::LastLf))
+            }
+            Phase::LastLf => {
+                self.only(b'\n')?;
+                Ok(Step::End(Chunk { phase, room, read }))
+            }
+        }
+    }
 }
 
 impl Chunk {
     // The start of a chunked body whose first byte has the place `read`.
+    #[tactic(auto, unfolding(crate::specs::Chunked::most_bytes))]
     pub fn new(read: usize) -> Chunk
         ensures { result ≡ fresh most_bytes read }
     {
@@ -118,106 +230,7 @@ impl Chunk {
         }
     }
 
-    // The byte is right, and the next is read in this phase.
-    fn to(self, phase: Phase) -> Step
-        requires { self.read + 1 < 2 ^ 64 }
-        ensures { result ≡ to self phase }
-    {
-        Step::On(Chunk {
-            phase,
-            room: self.room,
-            read: self.read + 1,
-        })
-    }
-
-    // The byte is wrong.
-    fn bad(self) -> Step
-        ensures { result ≡ bad self }
-    {
-        Step::Bad(Flaw {
-            fault: Fault::Chunk,
-            place: self.read,
-        })
-    }
-
-    // One byte must stand here, and another phase follows.
-    fn only(self, mark: u8, b: u8, next: Phase) -> Step
-        requires { self.read + 1 < 2 ^ 64 }
-        ensures { result ≡ only mark self b (to self next) }
-    {
-        if b == mark { self.to(next) } else { self.bad() }
-    }
-
-    // A digit of a size, or the CR after it. The bound on the value holds wherever fewer than 5 digits were read, and keeps the sum small anywhere.
-    fn on_size(self, first: usize, digits: u8, value: usize, b: u8) -> Step
-        requires { self.read + 1 < 2 ^ 64 }
-        ensures { result ≡ on_size self first digits value b (digit_value Hexadecimal b) }
-    {
-        match Base::Hexadecimal.digit_value(b) {
-            Some(d) if digits < 5 && value < 0x1_0000 => self.to(Phase::Size {
-                first,
-                digits: digits + 1,
-                value: value * 16 + d as usize,
-            }),
-            None if b == b'\r' && digits > 0 => self.to(Phase::SizeLf { first, value }),
-            _ => self.bad(),
-        }
-    }
-
-    // The line of a size has ended.
-    fn sized(self, first: usize, value: usize) -> Step
-        requires { self.read + 1 < 2 ^ 64 }
-        ensures { result ≡ sized self first value }
-    {
-        if value == 0 {
-            self.to(Phase::LastCr)
-        } else if value <= self.room {
-            Step::On(Chunk {
-                phase: Phase::Bytes { left: value },
-                room: self.room - value,
-                read: self.read + 1,
-            })
-        } else {
-            Step::Bad(Flaw {
-                fault: Fault::BodyTooLong,
-                place: first,
-            })
-        }
-    }
-
-    // One byte that is none of a chunk's own.
-    fn read_byte(self, b: u8) -> Step
-        requires { self.read + 1 < 2 ^ 64 }
-        ensures { result ≡ step_of self b }
-    {
-        let read = self.read + 1;
-        match self.phase {
-            Phase::Size {
-                first,
-                digits,
-                value,
-            } => self.on_size(first, digits, value, b),
-            Phase::SizeLf { first, value } if b == b'\n' => self.sized(first, value),
-            Phase::Bytes { left: _ } => self.only(b'\r', b, Phase::BytesLf),
-            Phase::BytesLf => self.only(
-                b'\n',
-                b,
-                Phase::Size {
-                    first: read,
-                    digits: 0,
-                    value: 0,
-                },
-            ),
-            Phase::LastCr => self.only(b'\r', b, Phase::LastLf),
-            Phase::LastLf if b == b'\n' => Step::End(Chunk {
-                phase: Phase::LastLf,
-                room: self.room,
-                read,
-            }),
-            _ => self.bad(),
-        }
-    }
-
+    // What came of a piece, with this state after it.
     fn fed(self, written: usize, taken: usize, outcome: Outcome) -> Fed
         ensures { result ≡ fed self written taken outcome }
     {
@@ -240,22 +253,28 @@ impl Chunk {
         }
         let mut chunk = self;
         let mut written: usize = 0;
-        let mut taken: usize = 0;
-        while taken < piece.len() {
-            let due = chunk.due().min(piece.len() - taken);
+        let mut rest = piece;
+        while let Some((byte, behind)) = rest.split_first() {
+            let due = chunk.due().min(rest.len());
             if due > 0 {
-                written += put(&mut out[written..], &piece[taken..taken + due]);
+                let (bytes, after) = rest.split_at(due);
+                written += put(&mut out[written..], bytes);
                 chunk = chunk.skip(due);
-                taken += due;
+                rest = after;
                 continue;
             }
-            match chunk.read_byte(piece[taken]) {
-                Step::On(next) => chunk = next,
-                Step::End(last) => return Ok(last.fed(written, taken + 1, Outcome::Whole)),
-                Step::Bad(flaw) => return Ok(chunk.fed(written, taken, Outcome::Wrong(flaw))),
+            let taken = piece.len() - behind.len();
+            let control = Control {
+                state: chunk,
+                byte: *byte,
+            };
+            match control.step() {
+                Ok(Step::On(next)) => chunk = next,
+                Ok(Step::End(last)) => return Ok(last.fed(written, taken, Outcome::Whole)),
+                Err(flaw) => return Ok(chunk.fed(written, taken - 1, Outcome::Wrong(flaw))),
             }
-            taken += 1;
+            rest = behind;
         }
-        Ok(chunk.fed(written, taken, Outcome::More))
+        Ok(chunk.fed(written, piece.len(), Outcome::More))
     }
 }

@@ -1,37 +1,38 @@
 // Why a message is refused, and where: the faults by name, with the numbers and the statuses of the rules.
 ghost use Rattle.std.specs.Prelude.{◌≡◌};
-ghost use Rattle.message.specs.Faults.{number_of, status_of, ends_client};
+ghost use Rattle.message.specs.Faults.{number_of, status_of, ends_client, flaw};
 
+// The faults, each with its number in the rules.
 #[derive(Clone, Copy)]
 pub enum Fault {
     // the first line is not of its form
-    FirstLine,
+    FirstLine = 1,
     // a head, a name or the canonical head is too long, or the fields are too many
-    TooLong,
+    TooLong = 2,
     // a field line is not of its form
-    FieldLine,
+    FieldLine = 3,
     // no host, a second one, or one that names no server
-    Host,
+    Host = 4,
     // a length or an encoding beside another, or with a bad value
-    Framing,
+    Framing = 5,
     // a body said where the method has none, or none said where it has one
-    BodyUnfit,
+    BodyUnfit = 6,
     // the body is too long
-    BodyTooLong,
+    BodyTooLong = 7,
     // a chunk is not of its form
-    Chunk,
+    Chunk = 8,
     // a byte or code that a path may not have
-    PathByte,
+    PathByte = 9,
     // a part that is empty or ends with a dot
-    PathPart,
+    PathPart = 10,
     // a byte that a query may not have
-    QueryByte,
+    QueryByte = 11,
     // the server's rules say no
-    Denied,
+    Denied = 12,
     // as many owners wait on the connection as may
-    Busy,
+    Busy = 13,
     // an unreadable response, a byte that nobody waits for, or a connection that is down
-    Down,
+    Down = 14,
 }
 
 impl Fault {
@@ -39,22 +40,14 @@ impl Fault {
     pub fn number(self) -> u8
         ensures { result ≡ number_of self }
     {
-        match self {
-            Fault::FirstLine => 1,
-            Fault::TooLong => 2,
-            Fault::FieldLine => 3,
-            Fault::Host => 4,
-            Fault::Framing => 5,
-            Fault::BodyUnfit => 6,
-            Fault::BodyTooLong => 7,
-            Fault::Chunk => 8,
-            Fault::PathByte => 9,
-            Fault::PathPart => 10,
-            Fault::QueryByte => 11,
-            Fault::Denied => 12,
-            Fault::Busy => 13,
-            Fault::Down => 14,
-        }
+        self as u8
+    }
+
+    // It, shown by the byte at a place.
+    pub fn at(self, place: usize) -> Flaw
+        ensures { result ≡ flaw self place }
+    {
+        Flaw { fault: self, place }
     }
 
     // The status of the refusal.

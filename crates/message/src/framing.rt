@@ -22,33 +22,27 @@ pub struct Said {
     pub value_at: usize,
 }
 
-// What one field says of the body.
+// A length that is no number, or an encoding other than `chunked`.
 #[derive(Clone, Copy)]
-pub enum Says {
-    Nothing,
-    Nonsense,
-    Body(Size),
-}
+pub struct Nonsense;
 
 impl Line<'_> {
-    // What it says of the body.
-    fn says(&self) -> Says
+    // What it says of the body: nothing, how long it is, or nonsense.
+    fn says(&self) -> Result<Option<Size>, Nonsense>
         ensures { result ≡ says_of (view_line self.now) }
     {
         let field = self.field;
         if eq_ignore_case(field.name, b"content-length") {
-            return match read_number(field.value, Base::Decimal) {
-                Some(n) => Says::Body(Size::Length(n)),
-                None => Says::Nonsense,
-            };
+            let n = read_number(field.value, Base::Decimal).ok_or(Nonsense)?;
+            return Ok(Some(Size::Length(n)));
         }
         if !eq_ignore_case(field.name, b"transfer-encoding") {
-            return Says::Nothing;
+            return Ok(None);
         }
         if eq_ignore_case(field.value, b"chunked") {
-            Says::Body(Size::Chunked)
+            Ok(Some(Size::Chunked))
         } else {
-            Says::Nonsense
+            Err(Nonsense)
         }
     }
 
@@ -57,16 +51,10 @@ impl Line<'_> {
         ensures { result ≡ said_with said (view_line self.now) }
     {
         match (self.says(), said) {
-            (Says::Nothing, _) => Ok(said),
-            (_, Some(_)) => Err(Flaw {
-                fault: Fault::Framing,
-                place: self.at,
-            }),
-            (Says::Nonsense, None) => Err(Flaw {
-                fault: Fault::Framing,
-                place: self.value_at,
-            }),
-            (Says::Body(size), None) => Ok(Some(Said {
+            (Ok(None), _) => Ok(said),
+            (_, Some(_)) => Err(Fault::Framing.at(self.at)),
+            (Err(Nonsense), None) => Err(Fault::Framing.at(self.value_at)),
+            (Ok(Some(size)), None) => Ok(Some(Said {
                 size,
                 at: self.at,
                 value_at: self.value_at,

@@ -5,49 +5,43 @@ ghost use Rattle.message.specs.SentViews.{view_sent_fields};
 
 use crate::sent::Line;
 use crate::sent_field::SentField;
-use text::mark::cut;
+use text::mark::pieces;
 use text::name::eq_ignore_case;
 use text::value::trim;
+
+// The names of fields that are never sent on.
+const HOP_BY_HOP: [&[u8]; 9] = [
+    b"content-length",
+    b"transfer-encoding",
+    b"connection",
+    b"keep-alive",
+    b"te",
+    b"trailer",
+    b"upgrade",
+    b"expect",
+    b"proxy-connection",
+];
 
 // Whether fields of this name are never sent on.
 fn is_hop_by_hop(name: &[u8]) -> bool
     ensures { result ≡ hop_by_hop name.now }
 {
-    eq_ignore_case(name, b"content-length")
-        || eq_ignore_case(name, b"transfer-encoding")
-        || eq_ignore_case(name, b"connection")
-        || eq_ignore_case(name, b"keep-alive")
-        || eq_ignore_case(name, b"te")
-        || eq_ignore_case(name, b"trailer")
-        || eq_ignore_case(name, b"upgrade")
-        || eq_ignore_case(name, b"expect")
-        || eq_ignore_case(name, b"proxy-connection")
+    HOP_BY_HOP.iter().any(|known| eq_ignore_case(name, known))
 }
 
 // Whether a name stands between the commas of a list.
 fn lists(list: &[u8], name: &[u8]) -> bool
     ensures { result ≡ token_in name.now list.now }
 {
-    let mut rest = list;
-    while let Some((token, more)) = cut(rest, b',') {
-        if eq_ignore_case(trim(token), name) {
-            return true;
-        }
-        rest = more;
-    }
-    eq_ignore_case(trim(rest), name)
+    pieces(list, b',').any(|token| eq_ignore_case(trim(token), name))
 }
 
 // Whether a `connection` field names this one.
 fn is_named(lines: &[Line], name: &[u8]) -> bool
     ensures { result ≡ named_by name.now (held_all lines.now) }
 {
-    for line in lines {
-        if eq_ignore_case(line.field.name, b"connection") && lists(line.field.value, name) {
-            return true;
-        }
-    }
-    false
+    lines.iter().any(|line| eq_ignore_case(line.field.name, b"connection")
+        && lists(line.field.value, name))
 }
 
 // Whether a field of this name is not sent on. `host` always is.
@@ -62,14 +56,16 @@ pub fn keep<'t, 'a>(lines: &[Line<'a>], table: &'t mut [SentField<'a>]) -> &'t [
     ensures front { view_sent_fields result.now ≡ take (length table.old) (kept_of (held_all lines.now)) }
     ensures all { length lines.now ≤ length table.old → view_sent_fields result.now ≡ kept_of (held_all lines.now) }
 {
+    let sent_on = lines
+        .iter()
+        .filter(|line| !is_dropped(lines, line.field.name));
+    // the table is lent, as all memory is here: so many of its places are filled, by index, since what is written through `iter_mut` is not known
+    // once the loan has ended
     let mut count: usize = 0;
-    for line in lines {
-        if count >= table.len() || is_dropped(lines, line.field.name) {
-            continue;
-        }
+    for line in sent_on.take(table.len()) {
         table[count] = line.field;
         count += 1;
     }
     let fields = &table[..];
-    &fields[0..count]
+    &fields[..count]
 }

@@ -1,13 +1,10 @@
-// Fields that are sent on, held as they were sent, as parts of the caller's bytes, and the lines that they are written as: name, colon, space,
-// value, CR LF. They come into canonical form as they are written: the name in lower case, and one space for each run of spaces and tabs in the
-// value.
-ghost use Rattle.std.specs.Prelude.{◌≡◌, [], length, replicate};
-ghost use Rattle.text.specs.Bytes.{Wrote, capped};
+// Fields that are sent on, held as they were sent, as parts of the caller's bytes. They come into canonical form as they are written: the name in
+// lower case, and one space for each run of spaces and tabs in the value.
+ghost use Rattle.std.specs.Prelude.{◌≡◌, [], replicate};
 ghost use Rattle.message.specs.SentViews.{view_sent_field, view_sent_fields};
-ghost use Rattle.message.specs.Views.{field_line, field_bytes};
 
+use crate::field::FieldLine;
 use text::name::put_lower;
-use text::output::put;
 use text::squeezed::{put_squeezed, squeezed_len};
 
 // A field as it was sent, its value without the spaces and tabs at the ends.
@@ -17,7 +14,9 @@ pub struct SentField<'a> {
     pub value: &'a [u8],
 }
 
-// A table for the fields of a head that are sent on, to be lent: its length is how many a head may have.
+// A table for the fields of a head that are sent on, to be lent: its length is how many a head may have. Beside `sent::table`, since an array of a
+// type parameter has no size that could be proved.
+#[tactic(auto, unfolding(text::specs::Bytes::lowered, text::specs::Trims::squeezed_after))]
 pub fn blank_fields<'a>() -> [SentField<'a>; 64]
     ensures { view_sent_fields result ≡ replicate 64 (record { name = []; value = [] }) }
 {
@@ -28,46 +27,23 @@ pub fn blank_fields<'a>() -> [SentField<'a>; 64]
     [none; 64]
 }
 
-impl SentField<'_> {
-    // How many bytes its line has, in canonical form.
-    pub fn line_len(&self) -> usize
-        ensures { result ≡ capped (length (field_line (view_sent_field self.now))) }
-    {
-        self.name
-            .len()
-            .saturating_add(squeezed_len(self.value))
-            .saturating_add(4)
+impl FieldLine for SentField<'_> {
+    ghost view = { view_sent_field };
+
+    #[tactic(auto, using(text::proofs::Folding::length_lowered))]
+    fn name_len(&self) -> usize {
+        self.name.len()
     }
 
-    // Writes its line, in canonical form, to the front of `out`, as far as there is room.
-    pub fn put_line(&self, out: &mut [u8]) -> usize
-        ensures { Wrote (field_line (view_sent_field self.now)) out.old out.new result }
-    {
-        let n = put_lower(out, self.name);
-        let n = n + put(&mut out[n..], b": ");
-        let n = n + put_squeezed(&mut out[n..], self.value);
-        n + put(&mut out[n..], b"\r\n")
+    fn value_len(&self) -> usize {
+        squeezed_len(self.value)
     }
-}
 
-// How many bytes the lines of all the fields have.
-pub fn fields_len(fields: &[SentField]) -> usize
-    ensures { result ≡ capped (length (field_bytes (view_sent_fields fields.now))) }
-{
-    let mut n: usize = 0;
-    for f in fields {
-        n = n.saturating_add(f.line_len());
+    fn put_name(&self, out: &mut [u8]) -> usize {
+        put_lower(out, self.name)
     }
-    n
-}
 
-// Writes the lines of all the fields, in order, as far as there is room.
-pub fn put_fields(out: &mut [u8], fields: &[SentField]) -> usize
-    ensures { Wrote (field_bytes (view_sent_fields fields.now)) out.old out.new result }
-{
-    let mut n: usize = 0;
-    for f in fields {
-        n += f.put_line(&mut out[n..]);
+    fn put_value(&self, out: &mut [u8]) -> usize {
+        put_squeezed(out, self.value)
     }
-    n
 }

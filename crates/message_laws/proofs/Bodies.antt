@@ -1,5 +1,5 @@
 -- A chunked body is read to its end: each part of it leads from one state to the next.
-use Rattle.std.proofs.Common.{◌≡◌, ℕ, suc, ◌+◌, ◌-◌, ◌*◌, ◌^◌, ◌<◌, ◌≤◌, ◌&&◌, eqb, ltb, leb, List, [], ◌∷◌, ◌++◌, length, Some, Option, sym, refl, ap, ◌∙◌, append_assoc, add-zero, zero-lt-suc, pow-suc, add-one, arith}
+use Rattle.std.proofs.Common.{◌≡◌, ℕ, suc, ◌+◌, ◌-◌, ◌*◌, ◌^◌, ◌<◌, ◌≤◌, ◌&&◌, eqb, ltb, leb, List, [], ◌∷◌, ◌++◌, length, Some, Option, sym, refl, ap, ◌∙◌, append_assoc, add-zero, zero-lt-suc, pow-suc, add-one, arith, Ok, Err}
 use native.Mathlib.Nat.{sub-zero, pow-le-pow_right}
 use Rattle.std.proofs.lemmas.List.{append-nil, length-append, take_at, drop_at}
 use Rattle.std.proofs.lemmas.Bool.{cond-true, cond-false, lt-ltb, le-leb, ne_eqb, and_from}
@@ -9,9 +9,8 @@ use Rattle.text.specs.declared.numeral.Base.TheVariants.{Hexadecimal}
 use Rattle.message.specs.declared.chunked.Chunk.{Chunk}
 use Rattle.message.specs.declared.chunked.Outcome.TheVariants.{Whole}
 use Rattle.message.specs.declared.chunked.Phase.TheVariants.{Size, SizeLf, Bytes, LastLf}
-use Rattle.message.specs.declared.chunked.Step.{Step}
 use Rattle.message.specs.declared.chunked.Step.TheVariants.{On}
-use Rattle.message.specs.Chunked.{in_phase, fresh, to, bad, on_size, after, stop, go, run}
+use Rattle.message.specs.Chunked.{Stepped, in_phase, fresh, to, wrong_byte, on_size, after, stop, go, run}
 use Rattle.message.proofs.Chunks.{after_none, after_after, run_bytes}
 use Rattle.message_laws.specs.Chunks.{crlf, Says, Part, Right, AllRight, sent, all_sent, all_bytes}
 use Rattle.message_laws.specs.Laws.{ChunksRead}
@@ -49,7 +48,7 @@ digits_run (d ∷ ds) rest first k v n room read h l e =
     record {
       so =
           ap (λ (o : Option ℕ). go s (on_size s first k v d o) (λ t. run t (ds ++ rest))) on.1
-          ∙ ap (λ (z : Step). go s z (λ t. run t (ds ++ rest))) (cond-true (ltb k 5 && ltb v 65536) (to s (Size first (k + 1) (v * 16 + x))) (bad s) (and_from (ltb k 5) (ltb v 65536) (lt-ltb k 5 few) (lt-ltb v 65536 low)))
+          ∙ ap (λ (z : Stepped). go s z (λ t. run t (ds ++ rest))) (cond-true (ltb k 5 && ltb v 65536) (Ok (to s (Size first (k + 1) (v * 16 + x)))) (Err (wrong_byte s)) (and_from (ltb k 5) (ltb v 65536) (lt-ltb k 5 few) (lt-ltb v 65536 low)))
           ∙ ap (after [] 1) (digits_run ds rest first (k + 1) (v * 16 + x) n room (read + 1) bound left on.2).so
           ∙ after_after [] [] 1 (length ds) (run (in_phase (Size first (k + 1 + length ds) n) room (read + 1 + length ds)) rest)
           ∙ rw (one, count, place);
@@ -60,7 +59,7 @@ cr_run : (first k n room read : ℕ) (xs : Text) → 0 < k → Leads (in_phase (
 unfolding run
 cr_run first k n room read xs h =
     let s = in_phase (Size first k n) room read in
-    record { so = ap (λ (z : Step). go s z (λ t. run t xs)) (cond-true (ltb 0 k) (to s (SizeLf first n)) (bad s) (lt-ltb 0 k h)) }
+    record { so = ap (λ (z : Stepped). go s z (λ t. run t xs)) (cond-true (ltb 0 k) (Ok (to s (SizeLf first n))) (Err (wrong_byte s)) (lt-ltb 0 k h)) }
 
 -- a whole size, with its CR
 pub size_run : (ds rest : Text) (n room read : ℕ) → Says ds n →
@@ -78,7 +77,7 @@ lf_run first n room read xs h k =
     let s = in_phase (SizeLf first n) room read in
     let differ : n ≡ 0 → ⊥ = λ e. omega arith in
     record {
-      so = ap (λ (z : Step). go s z (λ t. run t xs)) (cond-false (eqb n 0) _ _ (ne_eqb n 0 differ) ∙ cond-true (leb n room) (On (in_phase (Bytes n) (room - n) (read + 1))) _ (le-leb n room k));
+      so = ap (λ (z : Stepped). go s z (λ t. run t xs)) (cond-false (eqb n 0) _ _ (ne_eqb n 0 differ) ∙ cond-true (leb n room) (Ok (On (in_phase (Bytes n) (room - n) (read + 1)))) _ (le-leb n room k));
     }
 
 -- its bytes

@@ -1,12 +1,11 @@
 -- Where a body is cut does not matter: induction over the first piece.
-use Rattle.std.proofs.Common.{◌≡◌, ℕ, Bool, true, false, cond, ltb, [], ◌∷◌, ◌++◌, sym, refl, ap, ◌∙◌}
+use Rattle.std.proofs.Common.{◌≡◌, ℕ, Bool, true, false, cond, ltb, [], ◌∷◌, ◌++◌, sym, refl, ap, ◌∙◌, Ok, Err}
 use Rattle.text.specs.Bytes.{Text}
 use Rattle.message.specs.declared.chunked.Chunk.{Chunk}
 use Rattle.message.specs.declared.chunked.Outcome.{Outcome}
 use Rattle.message.specs.declared.chunked.Outcome.TheVariants.{More, Whole, Wrong}
-use Rattle.message.specs.declared.chunked.Step.{Step}
-use Rattle.message.specs.declared.chunked.Step.TheVariants.{On, End, Bad}
-use Rattle.message.specs.Chunked.{Run, run, after, go, step_of, due_of, skipped}
+use Rattle.message.specs.declared.chunked.Step.TheVariants.{On, End}
+use Rattle.message.specs.Chunked.{Stepped, Run, run, after, go, step_of, due_of, skipped}
 use Rattle.message.proofs.Chunks.{after_none, after_after}
 use Rattle.message_laws.specs.Laws.{on_at, onward, ChunksCutFree, ChunksStay}
 
@@ -15,10 +14,10 @@ on_after ys n r More next = after_after ys r.body n r.taken (next r.chunk)
 on_after ys n r Whole next = refl
 on_after ys n r (Wrong f) next = refl
 
-go_onward : (s : Chunk) (x : Step) (f g next : Chunk → Run) → ((t : Chunk) → f t ≡ onward (g t) next) → go s x f ≡ onward (go s x g) next
-go_onward s (On t) f g next h = ap (after [] 1) (h t) ∙ on_after [] 1 (g t) (g t).outcome next
-go_onward s (End t) f g next h = refl
-go_onward s (Bad w) f g next h = refl
+go_onward : (s : Chunk) (x : Stepped) (f g next : Chunk → Run) → ((t : Chunk) → f t ≡ onward (g t) next) → go s x f ≡ onward (go s x g) next
+go_onward s (Ok (On t)) f g next h = ap (after [] 1) (h t) ∙ on_after [] 1 (g t) (g t).outcome next
+go_onward s (Ok (End t)) f g next h = refl
+go_onward s (Err w) f g next h = refl
 
 cond_onward : (t : Bool) (x y x' y' : Run) (next : Chunk → Run) → x ≡ onward x' next → y ≡ onward y' next → cond t x y ≡ onward (cond t x' y') next
 cond_onward true x y x' y' next h k = h

@@ -1,8 +1,8 @@
 -- What is still due of a chunk in each phase, and what the next byte makes of it.
-use Rattle.std.proofs.Common.{◌≡◌, ℕ, zero, suc, ◌+◌, ◌-◌, ◌*◌, ◌^◌, ◌<◌, ◌≤◌, Bool, true, false, cond, ◌&&◌, eqb, ltb, leb, [], ◌∷◌, ◌++◌, length, drop, replicate, Some, None, Option, sym, refl, ap, ◌∙◌, subst, zero-lt-suc, pow-suc, add-one, arith}
+use Rattle.std.proofs.Common.{◌≡◌, ℕ, zero, suc, ◌+◌, ◌-◌, ◌*◌, ◌^◌, ◌<◌, ◌≤◌, true, cond, ◌&&◌, eqb, ltb, leb, [], ◌∷◌, ◌++◌, length, drop, replicate, Some, None, Option, sym, refl, ap, ◌∙◌, subst, zero-lt-suc, pow-suc, add-one, arith, Ok, Err}
 use native.Mathlib.Nat.{pow-le-pow_right}
 use Rattle.std.proofs.lemmas.List.{length-replicate, drop_at}
-use Rattle.std.proofs.lemmas.Bool.{cond-true, lt-ltb, ltb-true, leb-true, leb-false, eqb-true, eqb-false, and_from, and_parts, both_ways}
+use Rattle.std.proofs.lemmas.Bool.{cond_both, cond-true, lt-ltb, ltb-true, leb-true, leb-false, eqb-true, eqb-false, and_from, and_parts, both_ways}
 use Rattle.text.specs.Bytes.{Text}
 use Rattle.text.specs.Numerals.{digit_value, on_digit, value_after}
 use Rattle.text.specs.declared.numeral.Base.TheVariants.{Hexadecimal}
@@ -15,9 +15,8 @@ use Rattle.message.specs.declared.chunked.Phase.TheVariants.{Size, SizeLf, Bytes
 use Rattle.message.specs.declared.chunked.Chunk.{Chunk}
 use Rattle.message.specs.declared.chunked.Outcome.{Outcome}
 use Rattle.message.specs.declared.chunked.Outcome.TheVariants.{Wrong}
-use Rattle.message.specs.declared.chunked.Step.{Step}
-use Rattle.message.specs.declared.chunked.Step.TheVariants.{On, End, Bad}
-use Rattle.message.specs.Chunked.{in_phase, to, bad, only, on_size, sized, Run, stop, go, run}
+use Rattle.message.specs.declared.chunked.Step.TheVariants.{On, End}
+use Rattle.message.specs.Chunked.{Stepped, in_phase, to, wrong_byte, only, on_size, sized, Run, stop, go, run}
 use Rattle.message_laws.specs.Chunks.{crlf}
 use Rattle.message_laws.proofs.Sizes.{value_on, digit_small}
 
@@ -173,12 +172,6 @@ pub data Turn (p : Phase) (room read b : ℕ) (bs : Text) (o : Outcome) : Type 0
 abbrev TurnOf : Phase → ℕ → ℕ → ℕ → Text → Run → Type 0
 TurnOf p room read b bs r = Turn p room read b bs r.outcome
 
--- a step on a test
-if_turn : (c : Bool) (p : Phase) (room read b : ℕ) (bs : Text) (x y : Step) → (c ≡ true → TurnOf p room read b bs (go (in_phase p room read) x (λ t. run t bs))) →
-    (c ≡ false → TurnOf p room read b bs (go (in_phase p room read) y (λ t. run t bs))) → TurnOf p room read b bs (go (in_phase p room read) (cond c x y) (λ t. run t bs))
-if_turn true p room read b bs x y h k = h refl
-if_turn false p room read b bs x y h k = k refl
-
 -- where the byte is no right one of a size, no text goes on with it
 size_wrong : (first k v room read b : ℕ) (bs : Text) (o : Option ℕ) (s : Chunk) → digit_value Hexadecimal b ≡ o →
     ((Q : ℕ → Text → Type 0) (t : Text) → SizedAt Q k v b t o → ⊥) → TurnOf (Size first k v) room read b bs (stop s 0 (Wrong (flaw BadChunk read)))
@@ -190,7 +183,7 @@ size_turn first k v room read b bs (Some x) e =
     let p = Size first k v in
     let s = in_phase p room read in
     let q = Size first (k + 1) (v * 16 + x) in
-    if_turn (ltb k 5 && ltb v 65536) p room read b bs (to s q) (bad s)
+    cond_both (ltb k 5 && ltb v 65536) (Ok (to s q)) (Err (wrong_byte s)) (λ z. TurnOf p room read b bs (go s z (λ t. run t bs)))
     (λ f.
     goes q room refl (digits_open first (k + 1) (v * 16 + x) (omega arith))
     (λ u. (λ d. (sized_on Data k v b u (Some x) e d).1, λ d. sized_back Data k v b u (Some x) e (f, d)))
@@ -199,7 +192,7 @@ size_turn first k v room read b bs (Some x) e =
 size_turn first k v room read b bs None e =
     let p = Size first k v in
     let s = in_phase p room read in
-    if_turn (eqb b 13 && ltb 0 k) p room read b bs (to s (SizeLf first v)) (bad s)
+    cond_both (eqb b 13 && ltb 0 k) (Ok (to s (SizeLf first v))) (Err (wrong_byte s)) (λ z. TurnOf p room read b bs (go s z (λ t. run t bs)))
     (λ f.
     goes (SizeLf first v) room refl (10 ∷ (replicate v 0 ++ crlf), lf_open v)
     (λ u. (λ d. (sized_on Data k v b u None e d).1, λ d. sized_back Data k v b u None e (f, d)))
@@ -232,16 +225,16 @@ sized_turn : (first n room read : ℕ) (bs : Text) →
 sized_turn first n room read bs =
     let p = SizeLf first n in
     let s = in_phase p room read in
-    let some : Step = On (in_phase (Bytes n) (room - n) (read + 1)) in
-    let above : Step = Bad (flaw BodyTooLong first) in
-    if_turn (eqb n 0) p room read 10 bs (to s LastCr) (cond (leb n room) some above)
+    let some : Stepped = Ok (On (in_phase (Bytes n) (room - n) (read + 1))) in
+    let above : Stepped = Err (flaw BodyTooLong first) in
+    cond_both (eqb n 0) (Ok (to s LastCr)) (cond (leb n room) some above) (λ z. TurnOf p room read 10 bs (go s z (λ t. run t bs)))
     (λ f.
     let z = eqb-true n 0 f in
     goes LastCr room refl (crlf, ([], refl))
     (λ u. (λ d. subst (λ m. Data m u) z (line_on Data n 10 u d), λ d. (u, refl, subst (λ m. Data m u) (sym z) d)))
     (λ w. (λ d. omega (arith, (line_on (Above first room w) n 10 bs d).0), λ d. absurd d)))
     (λ f.
-    if_turn (leb n room) p room read 10 bs some above
+    cond_both (leb n room) some above (λ z. TurnOf p room read 10 bs (go s z (λ t. run t bs)))
     (λ g.
     goes (Bytes n) (room - n) refl (replicate n 0 ++ crlf, bytes_open n)
     (λ u. (λ d. line_on Data n 10 u d, λ d. (u, refl, d)))
@@ -249,12 +242,12 @@ sized_turn first n room read bs =
     (λ g. large (flaw BodyTooLong first) refl (bs, refl, (leb-false n room g, refl))))
 
 -- one byte must stand there
-only_turn : (p : Phase) (mark room read b : ℕ) (bs : Text) (next : Step) → ((u : Text) → Due p (b ∷ u) → b ≡ mark) → ((w : Flaw) → Large p room w (b ∷ bs) → b ≡ mark) →
+only_turn : (p : Phase) (mark room read b : ℕ) (bs : Text) (next : Stepped) → ((u : Text) → Due p (b ∷ u) → b ≡ mark) → ((w : Flaw) → Large p room w (b ∷ bs) → b ≡ mark) →
     TurnOf p room read mark bs (go (in_phase p room read) next (λ t. run t bs)) →
     TurnOf p room read b bs (go (in_phase p room read) (only mark (in_phase p room read) b next) (λ t. run t bs))
 only_turn p mark room read b bs next h k turn =
     let s = in_phase p room read in
-    if_turn (eqb b mark) p room read b bs next (bad s)
+    cond_both (eqb b mark) next (Err (wrong_byte s)) (λ z. TurnOf p room read b bs (go s z (λ t. run t bs)))
     (λ f. subst (λ c. TurnOf p room read c bs (go s next (λ t. run t bs))) (sym (eqb-true b mark f)) turn)
     (λ f. wrong refl (λ u d. eqb-false b mark f (h u d)) (λ w d. eqb-false b mark f (k w d)))
 
@@ -265,7 +258,7 @@ turn (Size first k v) room read b bs = size_turn first k v room read b bs (digit
 turn (SizeLf first n) room read b bs =
     only_turn (SizeLf first n) 10 room read b bs (sized (in_phase (SizeLf first n) room read) first n) (line_head Data n b) (λ w. line_head (Above first room w) n b bs) (sized_turn first n room read bs)
 turn (Bytes zero) room read b bs =
-    only_turn (Bytes zero) 13 room read b bs (to (in_phase (Bytes zero) room read) BytesLf) (begins_head 13 (10 ∷ []) b) (λ w d. absurd d)
+    only_turn (Bytes zero) 13 room read b bs (Ok (to (in_phase (Bytes zero) room read) BytesLf)) (begins_head 13 (10 ∷ []) b) (λ w d. absurd d)
     (goes BytesLf room refl (10 ∷ [], ([], refl)) (begins_tail 13 (10 ∷ [])) (λ w. (λ d. d, λ d. d)))
 turn (Bytes (suc m)) room read b bs =
     let less : suc m - 1 ≡ m = omega arith in
@@ -273,9 +266,9 @@ turn (Bytes (suc m)) room read b bs =
     (ap (λ (r : Run). r.outcome) (cond-true (ltb 0 (suc m)) _ _ (lt-ltb 0 (suc m) (omega arith))) ∙ ap (λ n. (run (in_phase (Bytes n) room (read + 1)) bs).outcome) less)
     (replicate m 0 ++ crlf, bytes_open m) (λ u. (λ d. d, λ d. d)) (λ w. (λ d. d, λ d. d))
 turn BytesLf room read b bs =
-    only_turn BytesLf 10 room read b bs (to (in_phase BytesLf room read) (Size (read + 1) 0 0)) (begins_head 10 [] b) (λ w d. absurd d) (done (bs, refl) (λ w d. d))
+    only_turn BytesLf 10 room read b bs (Ok (to (in_phase BytesLf room read) (Size (read + 1) 0 0))) (begins_head 10 [] b) (λ w d. absurd d) (done (bs, refl) (λ w d. d))
 turn LastCr room read b bs =
-    only_turn LastCr 13 room read b bs (to (in_phase LastCr room read) LastLf) (begins_head 13 (10 ∷ []) b) (λ w d. absurd d)
+    only_turn LastCr 13 room read b bs (Ok (to (in_phase LastCr room read) LastLf)) (begins_head 13 (10 ∷ []) b) (λ w d. absurd d)
     (goes LastLf room refl (10 ∷ [], ([], refl)) (begins_tail 13 (10 ∷ [])) (λ w. (λ d. d, λ d. d)))
 turn LastLf room read b bs =
-    only_turn LastLf 10 room read b bs (End (in_phase LastLf room (read + 1))) (begins_head 10 [] b) (λ w d. absurd d) (done (bs, refl) (λ w d. d))
+    only_turn LastLf 10 room read b bs (Ok (End (in_phase LastLf room (read + 1)))) (begins_head 10 [] b) (λ w d. absurd d) (done (bs, refl) (λ w d. d))

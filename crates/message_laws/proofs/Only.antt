@@ -1,5 +1,5 @@
 -- What is read to an end is a chunked body: what may follow in each phase, and induction over the bytes.
-use Rattle.std.proofs.Common.{◌≡◌, ℕ, suc, ◌+◌, ◌-◌, ◌*◌, ◌<◌, ◌≤◌, Bool, true, false, cond, ◌&&◌, eqb, ltb, leb, ◌⊎◌, [], ◌∷◌, ◌++◌, length, take, Some, None, Option, sym, refl, ap, ◌∙◌, subst, inl, inr, append_assoc, one-add, arith}
+use Rattle.std.proofs.Common.{◌≡◌, ℕ, suc, ◌+◌, ◌-◌, ◌*◌, ◌<◌, ◌≤◌, cond, ◌&&◌, eqb, ltb, leb, ◌⊎◌, [], ◌∷◌, ◌++◌, length, take, Some, None, Option, sym, refl, ap, ◌∙◌, subst, inl, inr, append_assoc, one-add, arith, Ok, Err}
 use Rattle.std.proofs.lemmas.List.{length-append}
 use Rattle.std.proofs.lemmas.Bool.{cond_both, ltb-true, ltb-false, leb-true, eqb-true, eqb-false, and_parts}
 use Rattle.text.specs.Bytes.{Text}
@@ -12,9 +12,8 @@ use Rattle.message.specs.declared.chunked.Phase.{Phase}
 use Rattle.message.specs.declared.chunked.Phase.TheVariants.{Size, SizeLf, Bytes, BytesLf, LastCr, LastLf}
 use Rattle.message.specs.declared.chunked.Chunk.{Chunk}
 use Rattle.message.specs.declared.chunked.Outcome.TheVariants.{Whole, Wrong}
-use Rattle.message.specs.declared.chunked.Step.{Step}
-use Rattle.message.specs.declared.chunked.Step.TheVariants.{On, End, Bad}
-use Rattle.message.specs.Chunked.{in_phase, fresh, to, bad, only, on_size, sized, Run, after, stop, go, run}
+use Rattle.message.specs.declared.chunked.Step.TheVariants.{On, End}
+use Rattle.message.specs.Chunked.{Stepped, in_phase, fresh, to, wrong_byte, only, on_size, sized, Run, after, stop, go, run}
 use Rattle.message_laws.specs.Chunks.{crlf, Says, Part, sent, all_sent, Chunked}
 use Rattle.message_laws.specs.Laws.{OnlyChunks}
 use Rattle.message_laws.proofs.Sizes.{says_from}
@@ -195,18 +194,14 @@ on_goal p room b bs q room' read h f e =
     subst (λ (l : Text). RestOf p room l r.body) one (f (take r.taken bs) r.body (h q room' read e))
 
 bad_goal : (p : Phase) (room b : ℕ) (bs : Text) (s : Chunk) (f : Flaw) → Goal p room b bs (stop s 0 (Wrong f))
-bad_goal p room b bs s f e = absurd (let z : ◌≡◌ {A = ℕ} 0 1 = cc in omega arith)
-
-if_goal : (c : Bool) (s : Chunk) (x y : Step) (f : Chunk → Run) (G : Run → Type 0) → (c ≡ true → G (go s x f)) → (c ≡ false → G (go s y f)) → G (go s (cond c x y) f)
-if_goal true s x y f G h k = h refl
-if_goal false s x y f G h k = k refl
+bad_goal p room b bs s f e = absurd cc
 
 -- one byte must stand there
-only_goal : (p : Phase) (mark room read b : ℕ) (bs : Text) (next : Step) → (b ≡ mark → Goal p room b bs (go (in_phase p room read) next (λ t. run t bs))) →
+only_goal : (p : Phase) (mark room read b : ℕ) (bs : Text) (next : Stepped) → (b ≡ mark → Goal p room b bs (go (in_phase p room read) next (λ t. run t bs))) →
     Goal p room b bs (go (in_phase p room read) (only mark (in_phase p room read) b next) (λ t. run t bs))
 only_goal p mark room read b bs next h =
     let s = in_phase p room read in
-    if_goal (eqb b mark) s next (bad s) (λ t. run t bs) (Goal p room b bs) (λ e. h (eqb-true b mark e)) (λ e. bad_goal p room b bs s _)
+    cond_both (eqb b mark) next (Err (wrong_byte s)) (λ z. Goal p room b bs (go s z (λ t. run t bs))) (λ e. h (eqb-true b mark e)) (λ e. bad_goal p room b bs s _)
 
 size_goal : (first k v room read b : ℕ) (bs : Text) (o : Option ℕ) → Holds bs → digit_value Hexadecimal b ≡ o →
     Goal (Size first k v) room b bs (go (in_phase (Size first k v) room read) (on_size (in_phase (Size first k v) room read) first k v b o) (λ t. run t bs))
@@ -214,13 +209,13 @@ size_goal first k v room read b bs (Some x) h e =
     let p = Size first k v in
     let s = in_phase p room read in
     let q = Size first (k + 1) (v * 16 + x) in
-    if_goal (ltb k 5 && ltb v 65536) s (to s q) (bad s) (λ t. run t bs) (Goal p room b bs)
+    cond_both (ltb k 5 && ltb v 65536) (Ok (to s q)) (Err (wrong_byte s)) (λ z. Goal p room b bs (go s z (λ t. run t bs)))
     (λ f. on_goal p room b bs q room (read + 1) h (λ t c. digit first k v x room b t c e (ltb-true k 5 (and_parts (ltb k 5) (ltb v 65536) f).0)))
     (λ f. bad_goal p room b bs s _)
 size_goal first k v room read b bs None h e =
     let p = Size first k v in
     let s = in_phase p room read in
-    if_goal (eqb b 13 && ltb 0 k) s (to s (SizeLf first v)) (bad s) (λ t. run t bs) (Goal p room b bs)
+    cond_both (eqb b 13 && ltb 0 k) (Ok (to s (SizeLf first v))) (Err (wrong_byte s)) (λ z. Goal p room b bs (go s z (λ t. run t bs)))
     (λ f.
     let both = and_parts (eqb b 13) (ltb 0 k) f in
     on_goal p room b bs (SizeLf first v) room (read + 1) h (λ t c. size_end first k v room b t c (eqb-true b 13 both.0) (ltb-true 0 k both.1)))
@@ -231,12 +226,12 @@ sized_goal : (first n room read b : ℕ) (bs : Text) → Holds bs → b ≡ 10 �
 sized_goal first n room read b bs h e =
     let p = SizeLf first n in
     let s = in_phase p room read in
-    let some : Step = On (in_phase (Bytes n) (room - n) (read + 1)) in
-    let large : Step = Bad (flaw BodyTooLong first) in
-    if_goal (eqb n 0) s (to s LastCr) (cond (leb n room) some large) (λ t. run t bs) (Goal p room b bs)
+    let some : Stepped = Ok (On (in_phase (Bytes n) (room - n) (read + 1))) in
+    let large : Stepped = Err (flaw BodyTooLong first) in
+    cond_both (eqb n 0) (Ok (to s LastCr)) (cond (leb n room) some large) (λ z. Goal p room b bs (go s z (λ t. run t bs)))
     (λ f. on_goal p room b bs LastCr room (read + 1) h (λ t c. zero_lf first n room b t c e (eqb-true n 0 f)))
     (λ f.
-    if_goal (leb n room) s some large (λ t. run t bs) (Goal p room b bs)
+    cond_both (leb n room) some large (λ z. Goal p room b bs (go s z (λ t. run t bs)))
     (λ g. on_goal p room b bs (Bytes n) (room - n) (read + 1) h (λ t c. some_lf first n room b t c e (eqb-false n 0 f) (leb-true n room g)))
     (λ g. bad_goal p room b bs s _))
 
@@ -253,19 +248,19 @@ byte_goal (SizeLf first n) room read b bs h = only_goal (SizeLf first n) 10 room
 byte_goal (Bytes n) room read b bs h =
     let p = Bytes n in
     let s = in_phase p room read in
-    cond_both (ltb 0 n) (after (b ∷ []) 1 (run (in_phase (Bytes (n - 1)) room (read + 1)) bs)) (go s (only 13 s b (to s BytesLf)) (λ t. run t bs)) (Goal p room b bs)
+    cond_both (ltb 0 n) (after (b ∷ []) 1 (run (in_phase (Bytes (n - 1)) room (read + 1)) bs)) (go s (only 13 s b (Ok (to s BytesLf))) (λ t. run t bs)) (Goal p room b bs)
     (λ e. due_goal n room read b bs (ltb-true 0 n e) h)
-    (λ e. let z : n ≡ 0 = omega (arith, ltb-false 0 n e) in only_goal p 13 room read b bs (to s BytesLf) (λ f. on_goal p room b bs BytesLf room (read + 1) h (λ t c. bytes_end n room b t c z f)))
+    (λ e. let z : n ≡ 0 = omega (arith, ltb-false 0 n e) in only_goal p 13 room read b bs (Ok (to s BytesLf)) (λ f. on_goal p room b bs BytesLf room (read + 1) h (λ t c. bytes_end n room b t c z f)))
 byte_goal BytesLf room read b bs h =
-    only_goal BytesLf 10 room read b bs (to (in_phase BytesLf room read) (Size (read + 1) 0 0)) (λ f. on_goal BytesLf room b bs (Size (read + 1) 0 0) room (read + 1) h (λ t c. next_lf room read b t c f))
+    only_goal BytesLf 10 room read b bs (Ok (to (in_phase BytesLf room read) (Size (read + 1) 0 0))) (λ f. on_goal BytesLf room b bs (Size (read + 1) 0 0) room (read + 1) h (λ t c. next_lf room read b t c f))
 byte_goal LastCr room read b bs h =
-    only_goal LastCr 13 room read b bs (to (in_phase LastCr room read) LastLf) (λ f. on_goal LastCr room b bs LastLf room (read + 1) h (λ t c r. (ap (λ x. x ∷ t) f ∙ ap (λ l. 13 ∷ l) r.0, r.1)))
+    only_goal LastCr 13 room read b bs (Ok (to (in_phase LastCr room read) LastLf)) (λ f. on_goal LastCr room b bs LastLf room (read + 1) h (λ t c r. (ap (λ x. x ∷ t) f ∙ ap (λ l. 13 ∷ l) r.0, r.1)))
 byte_goal LastLf room read b bs h =
-    only_goal LastLf 10 room read b bs (End (in_phase LastLf room (read + 1))) (λ f e. (ap (λ x. x ∷ []) f, refl))
+    only_goal LastLf 10 room read b bs (Ok (End (in_phase LastLf room (read + 1)))) (λ f e. (ap (λ x. x ∷ []) f, refl))
 
 holds : (bs : Text) → Holds bs
 unfolding run
-holds [] p room read e = absurd (let z : ◌≡◌ {A = ℕ} 0 1 = cc in omega arith)
+holds [] p room read e = absurd cc
 holds (b ∷ bs) p room read e = byte_goal p room read b bs (holds bs) e
 
 pub only_chunks : OnlyChunks

@@ -12,8 +12,7 @@ use Rattle.message.specs.declared.chunked.Phase.{Phase}
 use Rattle.message.specs.declared.chunked.Phase.TheVariants.{Size, SizeLf}
 use Rattle.message.specs.declared.chunked.Outcome.{Outcome}
 use Rattle.message.specs.declared.chunked.Outcome.TheVariants.{Whole, Wrong}
-use Rattle.message.specs.declared.chunked.Step.{Step}
-use Rattle.message.specs.Chunked.{in_phase, fresh, Run, go, run}
+use Rattle.message.specs.Chunked.{Stepped, in_phase, fresh, Run, go, run}
 use Rattle.message_laws.specs.Breaks.{Breaks}
 use Rattle.message_laws.specs.Chunks.{crlf, Says, Part, Right, sent, all_sent, all_bytes}
 use Rattle.message_laws.specs.ChunkFaults.{ChunkFirst, TooLarge, BadChunk, too_large, malformed, ChunksBreak, ChunksRefused}
@@ -60,7 +59,7 @@ found_turn p room read b bs o w start next e (large x is l) =
 
 found : (t : Text) (p : Phase) (room read : ℕ) (w : Flaw) → Open p → (run (in_phase p room read) t).outcome ≡ Wrong w → Found p room read t w
 unfolding run
-found [] p room read w start e = absurd (let z : ◌≡◌ {A = ℕ} 0 1 = cc in omega arith)
+found [] p room read w start e = absurd cc
 found (b ∷ bs) p room read w start e =
     found_turn p room read b bs (run (in_phase p room read) (b ∷ bs)).outcome w start (λ q room'. found bs q room' (read + 1) w) e (turn p room read b bs)
 
@@ -89,7 +88,7 @@ unfolding run
 above_run first n room read rest h =
     let s = in_phase (SizeLf first n) room read in
     let differ : n ≡ 0 → ⊥ = λ e. omega arith in
-    ap (λ (z : Step). (go s z (λ t. run t rest)).outcome) (cond-false (eqb n 0) _ _ (ne_eqb n 0 differ) ∙ cond-false (leb n room) _ _ (lt-leb n room h))
+    ap (λ (z : Stepped). (go s z (λ t. run t rest)).outcome) (cond-false (eqb n 0) _ _ (ne_eqb n 0 differ) ∙ cond-false (leb n room) _ _ (lt-leb n room h))
 
 -- the same in words of the grammar
 says_sized : (Q : ℕ → Text → Type 0) (size rest t : Text) (n : ℕ) → Says size n → Q n rest → t ≡ size ++ (crlf ++ rest) → Sized Q 0 0 t
@@ -219,7 +218,7 @@ break_first room at t w none e next (x, rest, (inr (zeros, says, is), f)) =
     let assoc : (zeros ++ (crlf ++ crlf)) ++ rest ≡ zeros ++ (13 ∷ 10 ∷ 13 ∷ 10 ∷ rest) = simp append_assoc in
     let whole : (run (fresh room at) t).outcome ≡ Whole =
     ap (λ l. (run (fresh room at) l).outcome) (f ∙ ap (λ l. l ++ rest) is ∙ assoc) ∙ ap (λ (r : Run). r.outcome) (last_run zeros rest room at says) in
-    absurd (let z : ◌≡◌ {A = ℕ} 0 1 = cc in omega arith)
+    absurd cc
 
 break_found : (room at : ℕ) (t : Text) (w : Flaw) → (run (fresh room at) t).outcome ≡ Wrong w → Shorter (length t) w → Found (Size at 0 0) room at t w → ChunksBreak room at t w
 break_found room at t w e next (above l) =

@@ -8,11 +8,11 @@ use Rattle.message_laws.specs.Chunks.{Says}
 
 if_some : (t : Bool) (o : Option ℕ) (n : ℕ) → cond t o None ≡ Some n → (t ≡ true) × (o ≡ Some n)
 if_some true o n e = (refl, e)
-if_some false o n e = absurd (let z : ◌≡◌ {A = ℕ} 0 1 = cc in omega arith)
+if_some false o n e = absurd cc
 
 long : (ds : Text) → nonempty ds ≡ true → 1 ≤ length ds
 unfolding nonempty
-long [] h = absurd (let z : ◌≡◌ {A = ℕ} 0 1 = cc in omega arith)
+long [] h = absurd cc
 long (d ∷ ds) h = omega arith
 
 some : (ds : Text) → 1 ≤ length ds → nonempty ds ≡ true
@@ -34,10 +34,10 @@ says_from ds n h k e =
 -- one digit first
 pub value_on : (v : ℕ) (ds : Text) (n : ℕ) (o : Option ℕ) → on_digit o (λ d. value_after Hexadecimal (v * 16 + d) ds) ≡ Some n → (x : ℕ) × (o ≡ Some x) × (value_after Hexadecimal (v * 16 + x) ds ≡ Some n)
 value_on v ds n (Some x) e = (x, refl, e)
-value_on v ds n None e = absurd (let z : ◌≡◌ {A = ℕ} 0 1 = cc in omega arith)
+value_on v ds n None e = absurd cc
 
 below_small : (o : Option ℕ) (x : ℕ) → below 16 o ≡ Some x → x < 16
-below_small None x e = absurd (let z : ◌≡◌ {A = ℕ} 0 1 = cc in omega arith)
+below_small None x e = absurd cc
 below_small (Some d) x e =
     let both = if_some (ltb d 16) (Some d) x e in
     let low = ltb-true d 16 both.0 in

@@ -1,13 +1,15 @@
 -- The parts of a canonical request are within the limits, and every line of it is plain: not empty, and without CR and LF.
-use Rattle.std.proofs.Common.{◌≡◌, ◌+◌, ◌<◌, ◌≤◌, Bool, true, false, cond, not, ◌&&◌, ◌||◌, T, eqb, leb, List, [], ◌∷◌, ◌++◌, length, refl, arith, le→leb, ltb→lt, leb→le}
+use Rattle.std.proofs.Common.{◌≡◌, ◌+◌, ◌<◌, ◌≤◌, Bool, true, false, not, ◌||◌, T, leb, List, [], ◌∷◌, ◌++◌, length, refl, arith, le→leb, ltb→lt, leb→le}
 use Rattle.std.specs.List.{AllByRecursion}
 use Rattle.std.proofs.lemmas.Bool.Decides.{nat_tests}
 use Rattle.std.proofs.ByRecursion.{All-push}
+use Rattle.std.proofs.lemmas.Bool.{cond_both}
 use Rattle.std.proofs.lemmas.List.{length-append}
 use Rattle.text.specs.Bytes.{Text, all, clean, nonempty, upper, visible, digit, value_byte}
 use Rattle.message.specs.Fields.{Field, canonical_field, canonical_fields, canonical_value, value_tail, lower_name_byte, field_lines, lines_of}
 use Rattle.request.specs.Canonical.{Req, canonical, carries_body, head_limit, field_limit, body_limit, canonical_method, canonical_target, one_host, fields_in_limits, sent_fields, length_field, head_lines, first_line, version}
 use Rattle.text.specs.Numerals.{decimal}
+use Rattle.message.proofs.Canonical.{tail_bytes, visible_value}
 use Rattle.reader.proofs.Heads.{Lines}
 use Rattle.text.proofs.Passing.{and_i, and_l, and_r, not_end, all_weaker, all_append, clean_by, so}
 use Rattle.text.proofs.Numbers.{decimal_digits}
@@ -61,19 +63,6 @@ canonical_plain (f ∷ fs) h =
     (record { some = search (and_l, and_r); name = search (and_l, and_r); value = search (and_l, and_r) }, canonical_plain fs (and_r (canonical_field f) (canonical_fields fs) h))
 
 -- a length is a value in canonical form
-visible_tail : (t : Text) → T (all visible t) → T (value_tail t)
-unfolding all value_tail
-visible_tail [] h = tt
-visible_tail (c ∷ []) h = and_l (visible c) true h
-visible_tail (c ∷ d ∷ t) h =
-    and_i (visible c || (eqb c 32 && visible d)) (value_tail (d ∷ t)) (so (visible c) (visible c || (eqb c 32 && visible d)) (λ e. grind (arith, nat_tests)) (and_l (visible c) (all visible (d ∷ t)) h))
-    (visible_tail (d ∷ t) (and_r (visible c) (all visible (d ∷ t)) h))
-
-visible_value : (t : Text) → T (all visible t) → T (canonical_value t)
-unfolding all canonical_value
-visible_value [] h = tt
-visible_value (c ∷ t) h = and_i (visible c) (value_tail (c ∷ t)) (and_l (visible c) (all visible t) h) (visible_tail (c ∷ t) h)
-
 pub length_plain : (body : Text) → Plain (length_field body)
 unfolding all nonempty
 length_plain body = record {
@@ -84,26 +73,13 @@ length_plain body = record {
 
 -- the fields as they are sent, in either case
 pub by_body : (P : List Field → Type 0) (q : Req) → (T (carries_body q.method) → P (q.fields ++ (length_field q.body ∷ []))) → (T (not (carries_body q.method)) → P q.fields) → P (sent_fields q)
-by_body P q f g = by (carries_body q.method) f g
-  where
-    by : (b : Bool) → (T b → P (q.fields ++ (length_field q.body ∷ []))) → (T (not b) → P q.fields) → P (cond b (q.fields ++ (length_field q.body ∷ [])) q.fields)
-    by true f g = f tt
-    by false f g = g tt
+by_body P q f g = cond_both (carries_body q.method) (q.fields ++ (length_field q.body ∷ [])) q.fields P (λ e. f (rw e tt)) (λ e. g (rw e tt))
 
 sent_plain : (q : Req) → T (canonical_fields q.fields) → AllByRecursion Plain (sent_fields q)
 sent_plain q h =
     by_body (AllByRecursion Plain) q (λ b. All-push Plain q.fields (length_field q.body) (canonical_plain q.fields h) (length_plain q.body)) (λ b. canonical_plain q.fields h)
 
 -- a value has visible bytes and spaces
-tail_bytes : (t : Text) → T (value_tail t) → T (all value_byte t)
-unfolding all value_tail
-tail_bytes [] h = tt
-tail_bytes (c ∷ []) h = and_i (value_byte c) true (so (visible c) (value_byte c) (λ e. grind (arith, nat_tests)) h) tt
-tail_bytes (c ∷ d ∷ t) h =
-    let first : T (visible c || (eqb c 32 && visible d)) = and_l (visible c || (eqb c 32 && visible d)) (value_tail (d ∷ t)) h in
-    and_i (value_byte c) (all value_byte (d ∷ t)) (so (visible c || (eqb c 32 && visible d)) (value_byte c) (λ e. grind (arith, nat_tests)) first)
-    (tail_bytes (d ∷ t) (and_r (visible c || (eqb c 32 && visible d)) (value_tail (d ∷ t)) h))
-
 pub value_bytes : (t : Text) → T (canonical_value t) → T (all value_byte t)
 unfolding all canonical_value
 value_bytes [] h = tt

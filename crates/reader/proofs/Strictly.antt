@@ -1,24 +1,25 @@
 -- The strict reader is fair.
-use Rattle.std.proofs.Common.{◌≡◌, ℕ, suc, ◌+◌, ◌-◌, false, not, ◌&&◌, ◌||◌, T, eqb, List, [], ◌∷◌, ◌++◌, length, get_or, take, drop, Some, sym, refl, ap, ◌∙◌, arith}
-use lib.Seq.{take-length}
-use Rattle.std.specs.List.{prefix_len, suffix_len, AllByRecursion}
+use Rattle.std.proofs.Common.{◌≡◌, ℕ, false, not, ◌&&◌, ◌||◌, T, eqb, List, [], ◌∷◌, ◌++◌, length, drop, Some, sym, refl, ap, ◌∙◌, arith}
+use Rattle.std.specs.List.{AllByRecursion}
 use Rattle.std.proofs.ByRecursion.{All-push}
-use Rattle.std.proofs.lemmas.List.{append-nil, take_all}
-use Rattle.std.proofs.lemmas.List.Sums.{suffix_len-take_no}
+use Rattle.std.proofs.lemmas.List.{append-nil}
 use Rattle.std.proofs.lemmas.Bool.{cond-false, or_parts}
-use Rattle.std.proofs.lemmas.Bool.Decides.{nat_tests}
-use Rattle.text.specs.Bytes.{Text, all, same, among, clean, nonempty, upper, visible, blank, name_byte, value_byte, lowered}
-use Rattle.text.specs.Trims.{trimmed, trimmed_front, trimmed_back}
+use Rattle.text.specs.Bytes.{Text, all, same, among, clean, nonempty, upper, visible, blank, name_byte, value_byte}
+use Rattle.text.specs.Trims.{trimmed}
 use Rattle.message.specs.Fields.{Field, canonical_field, canonical_fields, canonical_value, value_tail, lower_name_byte, line_of, field_lines, dropped, content_length, transfer_encoding}
 use Rattle.request.specs.Canonical.{canonical_method, begins_with_slash, canonical_target, length_field, first_line, version}
 use Rattle.reader.specs.Reader.{Cut, Short, Line, Many, One}
 use Rattle.reader.specs.Strict.{before, split_line, ask_of, ask_from, read_ask, field_of, read_fields, values_of, exactly, read_size}
 use Rattle.reader.specs.Laws.{StrictIsFair}
-use Rattle.text.proofs.Passing.{is_true, is_false, and_l, and_r, not_end, so, differs, all_weaker}
+use Rattle.text.proofs.Passing.{is_true, is_false, and_l, and_r, not_end, differs, all_weaker}
 use Rattle.text.specs.Marks.{cut_at}
 use Rattle.text.proofs.Marking.{cut_at_so}
 use Rattle.text.specs.declared.numeral.Base.TheVariants.{Decimal}
 use Rattle.text_laws.proofs.Digits.{read_back}
+use Rattle.text_laws.proofs.Ends.{trims}
+use Rattle.text_laws.specs.Laws.{blank_first, blank_last}
+use Rattle.message.proofs.Canonical.{name_byte_so}
+use Rattle.message.proofs.Settled.{lowered_name}
 use Rattle.reader.proofs.Plain.{Plain, canonical_plain, length_plain, value_bytes}
 
 -- a byte that ends no line belongs to the line
@@ -50,51 +51,30 @@ ask_read m t g h =
     ap ask_of (cut_at_so 32 upper refl m (t ++ (32 ∷ version)) b) ∙ ap (ask_from m) (cut_at_so 32 visible refl t version d) ∙
     rw (is_true (nonempty m) a, is_true (all upper m) b, is_true (nonempty t) c, is_true (all visible t) d)
 
--- names and values as they stand
-not_upper : (c : ℕ) → T (lower_name_byte c) → upper c ≡ false
-not_upper c h = let e = is_true (lower_name_byte c) h in grind (arith, nat_tests)
+-- a canonical value is bare at its ends
+not_blank : (c : ℕ) → T (visible c) → T (not (blank c))
+not_blank c h = rw (differs visible 32 c refl h, differs visible 9 c refl h) tt
 
-name_byte_so : (c : ℕ) → T (lower_name_byte c) → T (name_byte c)
-name_byte_so c h = so (lower_name_byte c) (name_byte c) (λ e. grind (arith, nat_tests)) h
+tail_bare : (t : Text) → T (value_tail t) → T (not (blank_last t))
+unfolding value_tail blank_last
+tail_bare [] h = tt
+tail_bare (c ∷ []) h = not_blank c h
+tail_bare (c ∷ d ∷ t) h = tail_bare (d ∷ t) (and_r (visible c || (eqb c 32 && visible d)) (value_tail (d ∷ t)) h)
 
-name_lowered : (t : Text) → T (all lower_name_byte t) → lowered t ≡ t
-unfolding all lowered
-name_lowered [] h = refl
-name_lowered (c ∷ t) h = rw (not_upper c (and_l (lower_name_byte c) (all lower_name_byte t) h), name_lowered t (and_r (lower_name_byte c) (all lower_name_byte t) h))
-
-not_blank : (c : ℕ) → T (visible c) → blank c ≡ false
-not_blank c h = rw (differs visible 32 c refl h, differs visible 9 c refl h)
-
-front_bare : (v : Text) → T (canonical_value v) → prefix_len blank v ≡ 0
-unfolding canonical_value
-front_bare [] h = refl
-front_bare (c ∷ t) h = cond-false (blank c) (1 + prefix_len blank t) 0 (not_blank c (and_l (visible c) (value_tail (c ∷ t)) h))
-
-last_visible : (c : ℕ) (t : Text) → T (value_tail (c ∷ t)) → T (visible (get_or (c ∷ t) (length t) 0))
-unfolding value_tail
-last_visible c [] h = h
-last_visible c (d ∷ t) h = last_visible d t (and_r (visible c || (eqb c 32 && visible d)) (value_tail (d ∷ t)) h)
-
-back_bare : (v : Text) → T (canonical_value v) → suffix_len blank v ≡ 0
-unfolding canonical_value
-back_bare [] h = refl
-back_bare (c ∷ t) h =
-    let v = c ∷ t in
-    let n = suc (length t) in
-    let at : suc (length t) - 1 ≡ length t = omega arith in
-    let last : blank (get_or v (n - 1) 0) ≡ false = ap (λ i. blank (get_or v i 0)) at ∙ not_blank (get_or v (length t) 0) (last_visible c t (and_r (visible c) (value_tail v) h)) in
-    ap (suffix_len blank) (sym (take-length v)) ∙ suffix_len-take_no blank v n 0 (omega arith) (omega arith) last
+value_bare : (v : Text) → T (canonical_value v) → T (not (blank_first v)) × T (not (blank_last v))
+unfolding canonical_value blank_first
+value_bare [] h = (tt, unfold blank_last in tt)
+value_bare (c ∷ t) h = (not_blank c (and_l (visible c) (value_tail (c ∷ t)) h), tail_bare (c ∷ t) (and_r (visible c) (value_tail (c ∷ t)) h))
 
 value_trimmed : (v : Text) → T (canonical_value v) → trimmed (32 ∷ v) ≡ v
-value_trimmed v h =
-    let front : trimmed_front (32 ∷ v) ≡ v = ap (λ n. drop (1 + n) (32 ∷ v)) (front_bare v h) in
-    ap trimmed_back front ∙ ap (λ n. take (length v - n) v) (back_bare v h) ∙ take_all (length v - 0) v (omega arith)
+unfolding all
+value_trimmed v h = (trims (32 ∷ v) v).1 record { front = 32 ∷ []; back = []; blanks = (tt, tt); bare = value_bare v h; joined = ap (λ u. 32 ∷ u) (sym (append-nil v)) }
 
 field_read : (f : Field) → Plain f → field_of (cut_at 58 (line_of f)) ≡ Some f
 unfolding all
 field_read f p =
     ap field_of (cut_at_so 58 lower_name_byte refl f.name (32 ∷ f.value) p.name) ∙
-    rw (is_true (nonempty f.name) p.some, is_true (all name_byte f.name) (all_weaker lower_name_byte name_byte name_byte_so f.name p.name), is_true (all value_byte f.value) (value_bytes f.value p.value), name_lowered f.name p.name, value_trimmed f.value p.value)
+    rw (is_true (nonempty f.name) p.some, is_true (all name_byte f.name) (all_weaker lower_name_byte name_byte name_byte_so f.name p.name), is_true (all value_byte f.value) (value_bytes f.value p.value), lowered_name f.name p.name, value_trimmed f.value p.value)
 
 fields_read : (fs : List Field) → AllByRecursion Plain fs → read_fields (field_lines fs) ≡ Many fs
 unfolding read_fields field_lines

@@ -1,50 +1,31 @@
--- A text that grows by zeros, which are then written over.
-use Rattle.std.proofs.Common.{◌≡◌, ℕ, ◌+◌, ◌-◌, ◌≤◌, [], ◌∷◌, ◌++◌, length, take, drop, replicate, sym, ap, ◌∙◌, append_assoc, append-nil, arith}
+-- A text that grows by zeros, which are then written over with a field's line.
+use Rattle.std.proofs.Common.{◌≡◌, ℕ, ◌+◌, ◌-◌, ◌≤◌, [], ◌∷◌, ◌++◌, length, take, drop, replicate, sym, ap, ap₂, ◌∙◌, arith}
 use borrow.Rule.Slice.PartMut.{put_mid}
-use Rattle.std.proofs.lemmas.List.{length-append, length-replicate, take_all, take_at, drop_all, drop_at}
-use Rattle.text.specs.Bytes.{Text, Wrote}
-use Rattle.text.proofs.Places.{placed_fits}
+use Rattle.std.proofs.lemmas.List.{length-append, length-replicate, take-append-le, take_all, take_at, take_rest, drop_at}
+use Rattle.std.proofs.lemmas.Slice.{take-put_mid}
+use Rattle.text.specs.Bytes.{Text, Wrote, placed}
+use Rattle.text.proofs.Places.{placed_over}
 use Rattle.message.specs.Fields.{Field, line_of, lines_of}
 use Rattle.message.specs.Views.{field_line}
 
--- ys written over as many bytes
-written : (ys rs out : Text) (m : ℕ) → length rs ≡ length ys → Wrote ys rs out m → out ≡ ys
-written ys rs out m e w =
-    let fits : length ys ≤ length rs = omega arith in
-    let none : length rs ≤ length ys = omega arith in
-    w.holds ∙ placed_fits ys rs fits ∙ ap (λ t. ys ++ t) (drop_all (length ys) rs none) ∙ append-nil ys
-
--- what the free end is written over with, in place
-put_back : (xs ys rs out : Text) (n m : ℕ) → n ≡ length xs → length rs ≡ length ys → Wrote ys (take (length (xs ++ rs) - n) (drop n (xs ++ rs))) out m
-    → put_mid n (length (xs ++ rs) - n) (xs ++ rs) out ≡ xs ++ ys
-put_back xs ys rs out n m at long w =
-    let both = length-append xs rs in
-    let free : drop n (xs ++ rs) ≡ rs = drop_at xs rs n (sym at) in
-    let past : length rs ≤ length (xs ++ rs) - n = omega arith in
-    let lent : take (length (xs ++ rs) - n) (drop n (xs ++ rs)) ≡ rs = ap (take (length (xs ++ rs) - n)) free ∙ take_all (length (xs ++ rs) - n) rs past in
-    let is : out ≡ ys = written ys rs out m long (rw lent at w) in
-    let none : drop (length (xs ++ rs) - n) (drop n (xs ++ rs)) ≡ [] = ap (drop (length (xs ++ rs) - n)) free ∙ drop_all (length (xs ++ rs) - n) rs past in
-    ap (λ t. t ++ (out ++ drop (length (xs ++ rs) - n) (drop n (xs ++ rs)))) (take_at xs rs n (sym at)) ∙ ap (λ t. xs ++ (out ++ t)) none ∙ ap (λ t. xs ++ t) (append-nil out ∙ is)
-
--- a text that has grown by zeros, lent from n on, and written over with ys
-pub written_over : (xs zs s out ys : Text) (n k e len m : ℕ) → n ≡ length xs → k ≡ length xs → e ≡ length xs + length ys → len ≡ e → zs ≡ take e xs ++ replicate (e - k) 0 → s ≡ zs
-    → Wrote ys (take (length s - n) (drop n s)) out m → take len (put_mid n (length s - n) s out ++ drop (length (put_mid n (length s - n) s out)) zs) ≡ xs ++ ys
-written_over xs zs s out ys n k e len m at old end whole grown lent w =
-    let rs : Text = replicate (e - k) 0 in
-    let fits : length xs ≤ e = omega arith in
-    let was : s ≡ xs ++ rs = lent ∙ grown ∙ ap (λ t. t ++ rs) (take_all e xs fits) in
-    let long : length rs ≡ length ys = length-replicate (e - k) 0 ∙ omega arith in
-    let now : put_mid n (length s - n) s out ≡ xs ++ ys = ap (λ t. put_mid n (length t - n) t out) was ∙ put_back xs ys rs out n m at long (rw was at w) in
-    ap (λ t. take len (t ++ drop (length t) zs)) now ∙ take_at (xs ++ ys) (drop (length (xs ++ ys)) zs) len (length-append xs ys ∙ omega arith)
-
--- a field's line without its CR LF
-pub without_end : (xs us : Text) (f : Field) (e : ℕ) → e ≡ length xs + length (field_line f) → us ≡ xs ++ field_line f → take (e - 2) us ≡ xs ++ line_of f
-unfolding lines_of
-without_end xs us f e long is =
-    let line = length-append (line_of f) (13 ∷ 10 ∷ []) in
-    ap (take (e - 2)) (is ∙ sym (append_assoc xs (line_of f) (13 ∷ 10 ∷ []))) ∙ take_at (xs ++ line_of f) (13 ∷ 10 ∷ []) (e - 2) (length-append xs (line_of f) ∙ omega arith)
-
 -- a field's line has its CR LF
-pub line_long : (f : Field) → 2 ≤ length (field_line f)
+pub line_long : (f : Field) → length (field_line f) ≡ length (line_of f) + 2
 unfolding lines_of
-line_long f = simp length-append (omega arith)
+line_long f = length-append (line_of f) (13 ∷ 10 ∷ [])
+
+-- xs has grown by zeros, from n on, and as much of the line as there is room for stands there now: all but its CR LF
+pub written_over : (f : Field) (xs zs s out : Text) (n k e len m : ℕ) → n ≡ length xs → k ≡ length xs → e ≡ length xs + length (line_of f) → len ≡ e → zs ≡ take e xs ++ replicate (e - k) 0 → s ≡ zs
+    → Wrote (field_line f) (take (length s - n) (drop n s)) out m → take len (put_mid n (length s - n) s out ++ drop (length (put_mid n (length s - n) s out)) zs) ≡ xs ++ line_of f
+unfolding lines_of
+written_over f xs zs s out n k e len m at old end whole grown lent w =
+    let rs : Text = replicate (e - k) 0 in
+    let was : s ≡ xs ++ rs = lent ∙ grown ∙ ap (λ t. t ++ rs) (take_all e xs (omega arith)) in
+    let long : length rs ≡ length (line_of f) = length-replicate (e - k) 0 ∙ omega arith in
+    let front : take n s ≡ xs = ap (take n) was ∙ take_at xs rs n (sym at) in
+    let free : take (length s - n) (drop n s) ≡ rs = take_rest s n ∙ ap (drop n) was ∙ drop_at xs rs n (sym at) in
+    let is : out ≡ line_of f = w.holds ∙ ap (placed (field_line f)) free ∙ placed_over (field_line f) rs (omega (arith, line_long f)) ∙ take_at (line_of f) (13 ∷ 10 ∷ []) (length rs) (sym long) in
+    let whole_s : length s ≡ length xs + length (line_of f) = ap length was ∙ length-append xs rs ∙ omega arith in
+    let whole_out : length out ≡ length (line_of f) = ap length is in
+    let past : len ≤ length (put_mid n (length s - n) s out) = simp length-append (omega (arith, ap length front)) in
+    take-append-le len (put_mid n (length s - n) s out) (drop (length (put_mid n (length s - n) s out)) zs) past ∙ take-put_mid n (length s - n) s out len (omega arith) (omega arith)
+    ∙ ap₂ (λ (a : Text) (b : Text). a ++ b) front is

@@ -1,3 +1,3 @@
-mod Growing
 mod Filling
+mod Growing
 mod Telling

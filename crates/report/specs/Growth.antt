@@ -1,12 +1,7 @@
 -- How a text grows at its end.
-use Rattle.std.specs.Prelude.{◌≡◌, List, [], ◌∷◌, ◌++◌, length, take, Result, MatchResult}
+use Rattle.std.specs.Prelude.{◌≡◌, ◌++◌, length, take, Result, MatchResult}
 use Rattle.std.specs.declared.alloc.AllocError.{AllocError}
 use Rattle.text.specs.Bytes.{Text}
-
--- texts one after the other
-unfoldable pub joined : List Text → Text
-joined [] = []
-joined (t ∷ ts) = t ++ joined ts
 
 -- a text xs that has grown by ys; or, where memory is wanting, the text as it was
 abbrev pub Appended : {U : Type 0} → Text → Text → Text → Result U AllocError → Type 0

@@ -2,61 +2,113 @@
 // it was.
 #![tactic(auto)]
 
-ghost use Rattle.std.specs.Prelude.{◌≡◌, ◌<◌, map};
-ghost use Rattle.text.specs.Numerals.{digit_byte};
+ghost use Rattle.std.specs.Prelude.{◌≡◌};
+ghost use Rattle.text.specs.Bytes.{Text};
+ghost use Rattle.text.specs.Numerals.{decimal};
 ghost use Rattle.message.specs.Fields.{line_of, field_lines};
 ghost use Rattle.message.specs.SentViews.{view_sent_field, view_sent_fields};
-ghost use Rattle.request.specs.Canonical.{first_line};
+ghost use Rattle.request.specs.Canonical.{first_line, length_field};
 ghost use Rattle.request.specs.Found.{view_finding, fault, passed};
 ghost use Rattle.request.specs.SentWriting.{view_sent_request};
-ghost use Rattle.report.specs.Growth.{Added, Appended, joined};
-ghost use Rattle.report.specs.Report.{indented_line, indented, length_line, hexadecimal, body_hex, body_line, request_lines, told};
+ghost use Rattle.report.specs.Growth.{Added, Appended};
+ghost use Rattle.report.specs.Report.{indented_line, indented, hexadecimal, body_hex, body_line, request_lines, told};
+
+#[cfg(test)]
+mod tests;
 
 use message::fault::Flaw;
+use message::field::FieldLine;
 use message::sent_field::SentField;
 use request::canonical::carries_body;
 use request::found::Found;
 use request::sent::SentRequest;
 use std::alloc::AllocError;
-use text::numeral::{Base, write_number};
+use text::numeral::{Base, hex_digits, write_number};
 
-// Adds texts one after the other.
-fn add(parts: &[&[u8]], text: &mut Vec<u8>) -> Result<(), AllocError>
-    ensures { Added (joined (map (λ x. x.now) parts.now)) text.old.items text.new.items result }
+// What can be told as lines of text.
+pub trait Told {
+    // the lines
+    ghost lines: { Self → Text };
+
+    // Adds the lines to `text`; where memory is wanting, some of them.
+    fn add_to(&self, text: &mut Vec<u8>) -> Result<(), AllocError>
+        ensures { Added (lines self.now) text.old.items text.new.items result };
+}
+
+// Appends the lines of what is told to `text`. Where memory is wanting, `text` is left as it was.
+pub fn tell<T: Told>(what: &T, text: &mut Vec<u8>) -> Result<(), AllocError>
+    ensures { Appended (T.lines what.now) text.old.items text.new.items result }
 {
-    for part in parts {
-        text.extend_from_slice(part)?;
+    let start = text.len();
+    let result = what.add_to(text);
+    if result.is_err() {
+        text.truncate(start);
     }
-    Ok(())
+    result
 }
 
-fn add_first(request: &SentRequest<'_, '_>, text: &mut Vec<u8>) -> Result<(), AllocError>
-    ensures { Added (indented_line (first_line request.now.method.now request.now.target.now)) text.old.items text.new.items result }
+// What was found in a client's bytes.
+impl Told for Found<'_, '_> {
+    ghost lines = { λ found. told (view_finding found) };
+
+    fn add_to(&self, text: &mut Vec<u8>) -> Result<(), AllocError> {
+        match self {
+            Found::Request(server, request) => add_passed(*server, request, text),
+            Found::Fault(flaw) => add_fault(*flaw, text),
+            Found::More => text.extend_from_slice(b"more\n"),
+        }
+    }
+}
+
+// A canonical request: its head, without the empty line, and its body; each line after two spaces.
+impl Told for SentRequest<'_, '_> {
+    ghost lines = { λ request. request_lines (view_sent_request request) };
+
+    fn add_to(&self, text: &mut Vec<u8>) -> Result<(), AllocError> {
+        add_first(self.method, self.target, text)?;
+        add_fields(self.fields, text)?;
+        if carries_body(self.method) {
+            add_length(self.body, text)?;
+            add_body(self.body, text)?;
+        }
+        Ok(())
+    }
+}
+
+// The parts follow, each added to the text that is lent. A struct around the text would hold that loan, which each contract would then speak of.
+fn add_number(number: usize, text: &mut Vec<u8>) -> Result<(), AllocError>
+    ensures { Added (decimal number) text.old.items text.new.items result }
 {
-    add(
-        &[b"  ", request.method, b" ", request.target, b" HTTP/1.1\n"],
-        text,
-    )
+    let mut digits = [0; 20];
+    text.extend_from_slice(write_number(&mut digits, number, Base::Decimal))
 }
 
-// Adds the line of a field, in canonical form. It is written with its CR LF, which then goes.
+fn add_first(method: &[u8], target: &[u8], text: &mut Vec<u8>) -> Result<(), AllocError>
+    ensures { Added (indented_line (first_line method.now target.now)) text.old.items text.new.items result }
+{
+    text.extend_from_slice(b"  ")?;
+    text.extend_from_slice(method)?;
+    text.extend_from_slice(b" ")?;
+    text.extend_from_slice(target)?;
+    text.extend_from_slice(b" HTTP/1.1\n")
+}
+
+// Adds the line of a field, in canonical form. There is room for all but its CR LF, which is not written.
 fn add_line(field: &SentField<'_>, text: &mut Vec<u8>) -> Result<(), AllocError>
     ensures { Added (line_of (view_sent_field field.now)) text.old.items text.new.items result }
 {
     let start = text.len();
-    let end = start.saturating_add(field.line_len());
-    text.resize(end, 0)?;
-    let _ = field.put_line(&mut text.as_mut_slice()[start..]);
-    text.truncate(end - 2);
+    text.resize(start.saturating_add(field.line_len() - 2), 0)?;
+    let _ = field.put_line(&mut text[start..]);
     Ok(())
 }
 
 fn add_field(field: &SentField<'_>, text: &mut Vec<u8>) -> Result<(), AllocError>
     ensures { Added (indented_line (line_of (view_sent_field field.now))) text.old.items text.new.items result }
 {
-    add(&[b"  "], text)?;
+    text.extend_from_slice(b"  ")?;
     add_line(field, text)?;
-    add(&[b"\n"], text)
+    text.extend_from_slice(b"\n")
 }
 
 fn add_fields(fields: &[SentField<'_>], text: &mut Vec<u8>) -> Result<(), AllocError>
@@ -68,24 +120,14 @@ fn add_fields(fields: &[SentField<'_>], text: &mut Vec<u8>) -> Result<(), AllocE
     Ok(())
 }
 
-// Adds the line of the length, where there is one.
-fn add_length(request: &SentRequest<'_, '_>, text: &mut Vec<u8>) -> Result<(), AllocError>
-    ensures { Added (length_line (view_sent_request request.now)) text.old.items text.new.items result }
+// Adds the line of the length of a body.
+fn add_length(body: &[u8], text: &mut Vec<u8>) -> Result<(), AllocError>
+    ensures { Added (indented_line (line_of (length_field body.now))) text.old.items text.new.items result }
 {
-    if !carries_body(request.method) {
-        return Ok(());
-    }
-    let mut digits = [0u8; 20];
-    let length = write_number(&mut digits, request.body.len(), Base::Decimal);
-    add(&[b"  content-length: ", length, b"\n"], text)
-}
-
-// The digit for a value.
-fn hex_digit(d: u8) -> u8
-    requires { d < 16 }
-    ensures { result ≡ digit_byte d }
-{
-    if d < 10 { b'0' + d } else { b'a' + (d - 10) }
+    text.extend_from_slice(b"  content-length: ")?;
+    add_number(body.len(), text)?;
+    text.extend_from_slice(b"\n")?;
+    Ok(())
 }
 
 fn add_hex(bytes: &[u8], text: &mut Vec<u8>) -> Result<(), AllocError>
@@ -93,43 +135,31 @@ fn add_hex(bytes: &[u8], text: &mut Vec<u8>) -> Result<(), AllocError>
 {
     text.reserve(bytes.len().saturating_mul(2))?;
     for b in bytes {
-        text.extend_from_slice(&[hex_digit(*b / 16), hex_digit(*b % 16)])?;
+        text.extend_from_slice(&hex_digits(*b))?;
     }
     Ok(())
 }
 
 // Adds the bytes of a body, after a space, where there are any.
+#[tactic(auto, unfolding(text::specs::Bytes::nonempty))]
 fn add_bytes(body: &[u8], text: &mut Vec<u8>) -> Result<(), AllocError>
     ensures { Added (body_hex body.now) text.old.items text.new.items result }
 {
-    if body.is_empty() {
-        return Ok(());
+    if !body.is_empty() {
+        text.extend_from_slice(b" ")?;
+        add_hex(body, text)?;
     }
-    add(&[b" "], text)?;
-    add_hex(body, text)
+    Ok(())
 }
 
-// Adds the line of the body, where there is one.
-fn add_body(request: &SentRequest<'_, '_>, text: &mut Vec<u8>) -> Result<(), AllocError>
-    ensures { Added (body_line (view_sent_request request.now)) text.old.items text.new.items result }
+// Adds the line of a body: how long it is, and its bytes.
+fn add_body(body: &[u8], text: &mut Vec<u8>) -> Result<(), AllocError>
+    ensures { Added (body_line body.now) text.old.items text.new.items result }
 {
-    if !carries_body(request.method) {
-        return Ok(());
-    }
-    let mut digits = [0u8; 20];
-    let length = write_number(&mut digits, request.body.len(), Base::Decimal);
-    add(&[b"  body ", length], text)?;
-    add_bytes(request.body, text)?;
-    add(&[b"\n"], text)
-}
-
-fn add_request(request: &SentRequest<'_, '_>, text: &mut Vec<u8>) -> Result<(), AllocError>
-    ensures { Added (request_lines (view_sent_request request.now)) text.old.items text.new.items result }
-{
-    add_first(request, text)?;
-    add_fields(request.fields, text)?;
-    add_length(request, text)?;
-    add_body(request, text)
+    text.extend_from_slice(b"  body ")?;
+    add_number(body.len(), text)?;
+    add_bytes(body, text)?;
+    text.extend_from_slice(b"\n")
 }
 
 fn add_passed(
@@ -139,53 +169,19 @@ fn add_passed(
 ) -> Result<(), AllocError>
     ensures { Added (told (passed server (view_sent_request request.now))) text.old.items text.new.items result }
 {
-    let mut digits = [0u8; 20];
-    let number = write_number(&mut digits, server.saturating_add(1), Base::Decimal);
-    add(&[b"pass ", number, b"\n"], text)?;
-    add_request(request, text)
+    text.extend_from_slice(b"pass ")?;
+    add_number(server.saturating_add(1), text)?;
+    text.extend_from_slice(b"\n")?;
+    request.add_to(text)?;
+    Ok(())
 }
 
 fn add_fault(flaw: Flaw, text: &mut Vec<u8>) -> Result<(), AllocError>
     ensures { Added (told (fault flaw)) text.old.items text.new.items result }
 {
-    let mut number = [0u8; 20];
-    let mut place = [0u8; 20];
-    let number = write_number(&mut number, usize::from(flaw.fault.number()), Base::Decimal);
-    let place = write_number(&mut place, flaw.place, Base::Decimal);
-    add(&[b"fault ", number, b" at ", place, b"\n"], text)
-}
-
-fn add_found(found: &Found<'_, '_>, text: &mut Vec<u8>) -> Result<(), AllocError>
-    ensures { Added (told (view_finding found.now)) text.old.items text.new.items result }
-{
-    match found {
-        Found::Request(server, request) => add_passed(*server, request, text),
-        Found::Fault(flaw) => add_fault(*flaw, text),
-        Found::More => add(&[b"more\n"], text),
-    }
-}
-
-// Appends the lines of a canonical request: of its head, without the empty line, and of its body; each after two spaces. Where memory is wanting,
-// `text` is left as it was.
-pub fn tell_request(request: &SentRequest<'_, '_>, text: &mut Vec<u8>) -> Result<(), AllocError>
-    ensures { Appended (request_lines (view_sent_request request.now)) text.old.items text.new.items result }
-{
-    let start = text.len();
-    let result = add_request(request, text);
-    if result.is_err() {
-        text.truncate(start);
-    }
-    result
-}
-
-// Appends what was found to `text`. Where memory is wanting, `text` is left as it was.
-pub fn tell(found: &Found<'_, '_>, text: &mut Vec<u8>) -> Result<(), AllocError>
-    ensures { Appended (told (view_finding found.now)) text.old.items text.new.items result }
-{
-    let start = text.len();
-    let result = add_found(found, text);
-    if result.is_err() {
-        text.truncate(start);
-    }
-    result
+    text.extend_from_slice(b"fault ")?;
+    add_number(usize::from(flaw.fault.number()), text)?;
+    text.extend_from_slice(b" at ")?;
+    add_number(flaw.place, text)?;
+    text.extend_from_slice(b"\n")
 }

@@ -6,12 +6,6 @@ use Rattle.text.specs.Bytes.{Text, placed}
 use Rattle.text.proofs.Places.{placed_fits}
 use Rattle.request.specs.Reading.{placed_at}
 
--- all of a part
-pub part_placed : (n : ℕ) (ys xs part : Text) → part ≡ ys → put_mid n (n + length ys - n) xs part ≡ placed_at n ys xs
-part_placed n ys xs part e =
-    let long : n + (n + length ys - n) ≡ n + length ys = omega arith in
-    ap (λ zs. take n xs ++ (part ++ zs)) (drop-drop (n + length ys - n) n xs ∙ ap (λ k. drop k xs) long) ∙ ap (λ zs. take n xs ++ (zs ++ drop (n + length ys) xs)) e
-
 -- the front of a part
 pub front_placed : (n m : ℕ) (ys xs part : Text) → length ys ≤ length (take m (drop n xs)) → part ≡ placed ys (take m (drop n xs)) → put_mid n m xs part ≡ placed_at n ys xs
 front_placed n m ys xs part h e =

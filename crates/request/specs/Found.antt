@@ -53,7 +53,7 @@ whole_in head end memory =
 
 abbrev pub found_in : Reading → Text → Result Finding Unfit
 found_in (InHead filled) memory = Ok more
-found_in (InBody head filled due) memory = Ok more
+found_in (InBody b) memory = Ok more
 found_in (Whole head end) memory = whole_in head end memory
 found_in (Refused w) memory = Ok (fault w)
 

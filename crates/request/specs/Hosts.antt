@@ -1,12 +1,17 @@
 -- The server that a head asks for. RFC 9112, 3.2: exactly one Host. Stricter: it is the name of a server, without a port.
-use Rattle.std.specs.Prelude.{ℕ, ◌+◌, Bool, cond, List, [], ◌∷◌, Some, None, Ok, Err, codes, Option, Result}
+use Rattle.std.specs.Prelude.{ℕ, ◌+◌, Bool, cond, List, [], ◌∷◌, map, Some, None, Ok, Err, codes, Option, Result}
 use Rattle.std.specs.Option.{option_map}
+use Rattle.std.specs.Borrow.{Bor}
 use Rattle.text.specs.Bytes.{Text, same_no_case}
 use Rattle.message.specs.Faults.{flaw, onward}
 use Rattle.message.specs.Sent.{Sent, view_line}
 use Rattle.message.specs.declared.fault.Fault.TheVariants.{Host}
 use Rattle.message.specs.declared.fault.Flaw.{Flaw}
 use Rattle.message.specs.declared.sent.Line.{Line}
+
+-- the names of servers, as the code holds them
+abbrev pub names_of : List (Bor Text) → List Text
+names_of servers = map (λ x. x.now) servers
 
 abbrev pub is_host : Sent → Bool
 is_host f = same_no_case f.name (codes "host")

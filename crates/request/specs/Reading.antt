@@ -1,5 +1,5 @@
 -- A client's bytes, read as they come: what a piece does to the small state and to the lent memory.
-use Rattle.std.specs.Prelude.{ℕ, ◌+◌, ◌-◌, Bool, true, cond, ◌&&◌, List, ◌++◌, length, take, drop, Some, None, Ok, Err, Option, Result, ◌==◌, nat_le, nat_lt}
+use Rattle.std.specs.Prelude.{◌≡◌, ℕ, ◌+◌, ◌-◌, ◌≤◌, Bool, true, cond, ◌&&◌, List, ◌++◌, length, take, drop, Some, None, Ok, Err, Option, Result, ◌==◌, nat_le, nat_lt}
 use Rattle.text.specs.Bytes.{Text}
 use Rattle.message.specs.Chunked.{fed_by as chunk_fed, held_by as chunk_held}
 use Rattle.message.specs.Faults.{flaw}
@@ -15,6 +15,7 @@ use Rattle.request.specs.declared.head.Head.{Head}
 use Rattle.request.specs.declared.head.Due.{Due}
 use Rattle.request.specs.declared.head.Due.TheVariants.{Length, Chunks}
 use Rattle.request.specs.declared.head.Judged.{Judged}
+use Rattle.request.specs.declared.reading.Body.{Body}
 use Rattle.request.specs.declared.reading.Reading.{Reading}
 use Rattle.request.specs.declared.reading.Reading.TheVariants.{InHead, InBody, Whole, Refused}
 use Rattle.request.specs.declared.reading.Fed.{Fed}
@@ -65,10 +66,14 @@ finished head end memory = on_target head end memory (check_target (target_in he
 abbrev pub ending : Head → ℕ → ℕ → Text → After
 ending head end n memory = after (finished head end memory).reading n (finished head end memory).memory
 
+-- a body that is being read, by its parts
+abbrev pub in_body : Head → ℕ → Due → Reading
+in_body head filled due = InBody record { head = head; filled = filled; due = due }
+
 abbrev pub on_judged : ℕ → ℕ → Text → Result (Option Judged) Flaw → After
 on_judged filled n memory (Err w) = after (Refused w) n memory
 on_judged filled n memory (Ok None) = after (InHead (filled + n)) n memory
-on_judged filled n memory (Ok (Some j)) = after (InBody j.head j.head.len j.due) (j.head.len - filled) memory
+on_judged filled n memory (Ok (Some j)) = after (in_body j.head j.head.len j.due) (j.head.len - filled) memory
 
 -- a piece of a head: as much of it as the window has room for is stored, and all that has come is judged; of a head that ends, no byte behind it is taken
 abbrev pub head_step : List Text → ℕ → Text → Text → After
@@ -80,16 +85,16 @@ head_step names filled memory piece =
 abbrev pub length_step : Head → ℕ → ℕ → Text → Text → After
 length_step head filled due memory piece =
     cond (nat_lt (length piece) due)
-    (after (InBody head (filled + length piece) (Length (due - length piece))) (length piece) (placed_at filled piece memory))
+    (after (in_body head (filled + length piece) (Length (due - length piece))) (length piece) (placed_at filled piece memory))
     (ending head (filled + due) due (placed_at filled (take due piece) memory))
 
 abbrev pub on_outcome : Head → ℕ → ChunkFed → Text → Outcome → After
-on_outcome head filled fed memory More = after (InBody head (filled + fed.written) (Chunks fed.chunk)) fed.taken memory
+on_outcome head filled fed memory More = after (in_body head (filled + fed.written) (Chunks fed.chunk)) fed.taken memory
 on_outcome head filled fed memory AllChunks = ending head (filled + fed.written) fed.taken memory
 on_outcome head filled fed memory (Wrong w) = after (Refused w) fed.taken memory
 
 abbrev pub on_chunks : Head → ℕ → Chunk → Text → Text → Result ChunkFed Unfit → After
-on_chunks head filled c memory held (Err u) = after (InBody head filled (Chunks c)) 0 memory
+on_chunks head filled c memory held (Err u) = after (in_body head filled (Chunks c)) 0 memory
 on_chunks head filled c memory held (Ok fed) = on_outcome head filled fed (take filled memory ++ held) fed.outcome
 
 -- a piece of a chunked body: the data goes to the free end of the memory
@@ -104,14 +109,14 @@ due_step head filled (Chunks c) memory piece = chunks_step head filled c memory 
 -- a piece of a body; where none is being read nothing is taken
 abbrev pub body_step : Reading → Text → Text → After
 body_step (InHead filled) memory piece = after (InHead filled) 0 memory
-body_step (InBody head filled due) memory piece = due_step head filled due memory piece
+body_step (InBody b) memory piece = due_step b.head b.filled b.due memory piece
 body_step (Whole head end) memory piece = after (Whole head end) 0 memory
 body_step (Refused w) memory piece = after (Refused w) 0 memory
 
 -- a piece of a head; where none is being read nothing is taken
 abbrev pub front_step : List Text → Reading → Text → Text → After
 front_step names (InHead filled) memory piece = head_step names filled memory piece
-front_step names (InBody head filled due) memory piece = after (InBody head filled due) 0 memory
+front_step names (InBody b) memory piece = after (InBody b) 0 memory
 front_step names (Whole head end) memory piece = after (Whole head end) 0 memory
 front_step names (Refused w) memory piece = after (Refused w) 0 memory
 
@@ -134,10 +139,18 @@ abbrev pub fits_due : ℕ → ℕ → Due → Bool
 fits_due size filled (Length due) = nat_le (filled + due) size
 fits_due size filled (Chunks c) = nat_le filled size
 
+-- a memory of this size has the parts of the head, and room for what is due of the body
+abbrev pub fits_body : ℕ → Body → Bool
+fits_body size b = fits_head size b.head && fits_due size b.filled b.due
+
+-- it has the parts of the head, and room for so many bytes behind those that have come
+abbrev pub HasRoom : ℕ → Body → ℕ → Type 0
+HasRoom size b more = (fits_head size b.head ≡ true) × (b.filled + more ≤ size)
+
 -- the parts of a memory of this size that the state speaks of are there
 abbrev pub fits_state : ℕ → Reading → Bool
 fits_state size (InHead filled) = nat_le filled window
-fits_state size (InBody head filled due) = fits_head size head && fits_due size filled due
+fits_state size (InBody b) = fits_body size b
 fits_state size (Whole head end) = true
 fits_state size (Refused w) = true
 

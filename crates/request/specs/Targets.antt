@@ -1,9 +1,9 @@
 -- Targets as sent: a path up to the first question mark, and the query behind it; what may be wrong with them, and their canonical form.
-use Rattle.std.specs.Prelude.{ℕ, ◌+◌, ◌-◌, ◌*◌, Bool, false, cond, ◌&&◌, ◌||◌, List, [], ◌∷◌, ◌++◌, length, take, drop, Some, None, Ok, Err, codes, Option, Result, ◌==◌, nat_le, nat_lt, slice_index}
+use Rattle.std.specs.Prelude.{ℕ, ◌+◌, ◌-◌, Bool, false, cond, ◌&&◌, ◌||◌, List, [], ◌∷◌, ◌++◌, length, take, drop, Some, None, Ok, Err, codes, Option, Result, ◌==◌, nat_le, nat_lt, slice_index}
 use Rattle.std.specs.List.{prefix_len}
 use Rattle.text.specs.Bytes.{Text, between, plain_byte, query_byte, same, same_no_case}
 use Rattle.text.specs.Marks.{before, split}
-use Rattle.text.specs.Numerals.{hex_value, on_digit}
+use Rattle.text.specs.Numerals.{hex_pair}
 use Rattle.message.specs.Faults.{flaw}
 use Rattle.message.specs.declared.fault.Fault.{Fault}
 use Rattle.message.specs.declared.fault.Fault.TheVariants.{PathByte, PathPart, QueryByte}
@@ -36,13 +36,12 @@ tokens_at (half a) (c ∷ cs) = Code a c ∷ tokens_at free cs
 abbrev pub tokens : Text → List Token
 tokens path = tokens_at free path
 
--- the token that stands at a place of a path
-abbrev pub token_at : ℕ → Text → Token
-token_at i t = cond (slice_index t i == 37 && nat_lt (i + 2) (length t)) (Code (slice_index t (i + 1)) (slice_index t (i + 2))) (Byte (slice_index t i))
+-- the token that a text begins with, where it has a byte
+abbrev pub token_in : Text → Token
+token_in t = cond (slice_index t 0 == 37 && nat_lt 2 (length t)) (Code (slice_index t 1) (slice_index t 2)) (Byte (slice_index t 0))
 
--- the byte that a code stands for
-abbrev pub code_value : ℕ → ℕ → Option ℕ
-code_value a b = on_digit (hex_value a) (λ x. on_digit (hex_value b) (λ y. Some (x * 16 + y)))
+abbrev pub first_token : Text → Option Token
+first_token t = cond (length t == 0) None (Some (token_in t))
 
 -- codes stand for plain bytes and for bytes 128 to 255 only
 abbrev pub good_code : Option ℕ → Bool
@@ -52,7 +51,7 @@ good_code (Some v) = plain_byte v || nat_le 128 v
 -- what a path may have: slashes, plain bytes and such codes
 abbrev pub good_token : Token → Bool
 good_token (Byte c) = plain_byte c || c == 47
-good_token (Code a b) = good_code (code_value a b)
+good_token (Code a b) = good_code (hex_pair a b)
 
 -- how many bytes it has as sent
 abbrev pub width : Token → ℕ
@@ -75,7 +74,7 @@ spell_code a b (Some v) = cond (plain_byte v) (v ∷ []) (37 ∷ capital a ∷ c
 
 abbrev pub spell : Token → Text
 spell (Byte c) = c ∷ []
-spell (Code a b) = spell_code a b (code_value a b)
+spell (Code a b) = spell_code a b (hex_pair a b)
 
 unfoldable pub spelled : List Token → Text
 spelled [] = []

@@ -1,14 +1,20 @@
 -- What the code holds of a canonical request, as a value, and what writing one does to the output.
 use Rattle.std.specs.Prelude.{◌≡◌, ℕ, ◌+◌, ◌<◌, ◌≤◌, cond, [], ◌∷◌, ◌++◌, length, drop, Ok, Err, Result}
 use Rattle.text.specs.Bytes.{Text, capped}
-use Rattle.message.specs.Fields.{lines_of}
-use Rattle.message.specs.Views.{view_fields, field_line}
+use Rattle.message.specs.Fields.{Field, lines_of}
+use Rattle.message.specs.Views.{view_field, fields_by, field_line}
+use Rattle.message.specs.declared.field.Field.{Field as Held}
 use Rattle.request.specs.Canonical.{Req, carries_body, first_line, length_field, head_lines}
 use Rattle.request.specs.declared.canonical.Request.{Request}
 use Rattle.request.specs.declared.canonical.Full.{Full}
 
-abbrev pub view_request : Request → Req
-view_request q = record { method = q.method.now; target = q.target.now; fields = view_fields q.fields.now; body = q.body.now }
+-- a request by what each of its fields stands for
+abbrev pub request_by : {F : Type 0} → (F → Field) → Request F → Req
+request_by view q = record { method = q.method.now; target = q.target.now; fields = fields_by view q.fields.now; body = q.body.now }
+
+-- one whose fields are held in canonical form
+abbrev pub view_request : Request Held → Req
+view_request q = request_by view_field q
 
 -- how many bytes a canonical head has, its empty line included
 abbrev pub head_length : Req → ℕ

@@ -1,21 +1,22 @@
-// Canonical requests and their bytes. The free end of the output is lent on, part by part: first line, fields, length, empty line, body.
-// Whether all of it has room is asked before the first byte is written, so that a refusal leaves the output as it was.
+// Canonical requests and their bytes, however their fields are held. The free end of the output is lent on, part by part: first line, fields,
+// length, empty line, body. Whether all of it has room is asked before the first byte is written, so that a refusal leaves the output as it was.
 ghost use Rattle.std.specs.Prelude.{◌≡◌, length};
 ghost use Rattle.text.specs.Bytes.{Wrote, capped};
 ghost use Rattle.message.specs.Views.{view_field};
 ghost use Rattle.request.specs.Canonical.{carries_body, length_field, write};
-ghost use Rattle.request.specs.Writing.{view_request, first_bytes, length_bytes, Written};
+ghost use Rattle.request.specs.Writing.{request_by, head_length, first_bytes, length_bytes, Written};
 
-use message::field::{Field, fields_len, put_fields};
+use message::field::{Field, FieldLine, fields_len, put_fields};
 use text::name::eq;
 use text::numeral::{Base, write_number};
 use text::output::put;
 
+// A request, as parts of the caller's bytes, with fields that are held in any way in which they can be written.
 #[derive(Clone, Copy)]
-pub struct Request<'f, 'a> {
+pub struct Request<'f, 'a, F = Field<'a>> {
     pub method: &'a [u8],
     pub target: &'a [u8],
-    pub fields: &'f [Field<'a>],
+    pub fields: &'f [F],
     pub body: &'a [u8],
 }
 
@@ -26,16 +27,18 @@ pub struct Full {
 }
 
 // Whether requests of this method carry a body: POST, PUT and PATCH do, and no other.
+#[tactic(auto, unfolding(text::specs::Bytes::among))]
 pub fn carries_body(method: &[u8]) -> bool
     ensures { result ≡ carries_body method.now }
 {
+    // by `eq`: a match of byte strings was tried, and left 17 goals open
     eq(method, b"POST") || eq(method, b"PUT") || eq(method, b"PATCH")
 }
 
-impl Request<'_, '_> {
+impl<F: FieldLine> Request<'_, '_, F> {
     // The field that says how long the body is, with its digits in the caller's bytes.
     fn length_field<'d>(&self, digits: &'d mut [u8; 20]) -> Field<'d>
-        ensures { view_field result ≡ length_field (view_request self.now).body }
+        ensures { view_field result ≡ length_field (request_by F.view self.now).body }
     {
         let value = write_number(digits, self.body.len(), Base::Decimal);
         Field {
@@ -44,8 +47,8 @@ impl Request<'_, '_> {
         }
     }
 
-    pub(crate) fn length_len(&self) -> usize
-        ensures { result ≡ capped (length (length_bytes (view_request self.now))) }
+    fn length_len(&self) -> usize
+        ensures { result ≡ capped (length (length_bytes (request_by F.view self.now))) }
     {
         if !carries_body(self.method) {
             return 0;
@@ -54,23 +57,30 @@ impl Request<'_, '_> {
         self.length_field(&mut digits).line_len()
     }
 
-    // How many bytes it has on the wire.
-    pub fn wire_len(&self) -> usize
-        ensures { result ≡ capped (length (write (view_request self.now))) }
+    // How many bytes its head has on the wire, the empty line included.
+    pub fn head_len(&self) -> usize
+        ensures { result ≡ capped (head_length (request_by F.view self.now)) }
     {
         let first = self
             .method
             .len()
             .saturating_add(self.target.len())
             .saturating_add(12);
-        let head = first
+        first
             .saturating_add(fields_len(self.fields))
-            .saturating_add(self.length_len());
-        head.saturating_add(2).saturating_add(self.body.len())
+            .saturating_add(self.length_len())
+            .saturating_add(2)
     }
 
-    pub(crate) fn put_first_line(&self, out: &mut [u8]) -> usize
-        ensures { Wrote (first_bytes (view_request self.now)) out.old out.new result }
+    // How many bytes it has on the wire.
+    pub fn wire_len(&self) -> usize
+        ensures { result ≡ capped (length (write (request_by F.view self.now))) }
+    {
+        self.head_len().saturating_add(self.body.len())
+    }
+
+    fn put_first_line(&self, out: &mut [u8]) -> usize
+        ensures { Wrote (first_bytes (request_by F.view self.now)) out.old out.new result }
     {
         let n = put(out, self.method);
         let n = n + put(&mut out[n..], b" ");
@@ -78,8 +88,8 @@ impl Request<'_, '_> {
         n + put(&mut out[n..], b" HTTP/1.1\r\n")
     }
 
-    pub(crate) fn put_length(&self, out: &mut [u8]) -> usize
-        ensures { Wrote (length_bytes (view_request self.now)) out.old out.new result }
+    fn put_length(&self, out: &mut [u8]) -> usize
+        ensures { Wrote (length_bytes (request_by F.view self.now)) out.old out.new result }
     {
         if !carries_body(self.method) {
             return 0;
@@ -90,7 +100,7 @@ impl Request<'_, '_> {
 
     // Writes it to the front of `out`, whole, and says how many bytes that took.
     pub fn write(&self, out: &mut [u8]) -> Result<usize, Full>
-        ensures { Written (write (view_request self.now)) out.old out.new result }
+        ensures { Written (write (request_by F.view self.now)) out.old out.new result }
     {
         let wanted = self.wire_len();
         if wanted > out.len() {

@@ -1,7 +1,5 @@
 // The first line of a request: method, space, target, space, version. What the target may hold is judged later.
 ghost use Rattle.std.specs.Prelude.{◌≡◌, ◌≤◌, length};
-ghost use Rattle.message.specs.Faults.{flaw};
-ghost use Rattle.message.specs.declared.fault.Fault.TheVariants.{FirstLine};
 ghost use Rattle.request.specs.First.{agree, check_first, FirstWithin};
 
 use message::fault::{Fault, Flaw};
@@ -19,49 +17,34 @@ fn agreeing(s: &[u8], t: &[u8]) -> usize
     ensures is { result ≡ agree s.now t.now }
     ensures within { result ≤ length s.now }
 {
-    let n = s.len().min(t.len());
-    for i in 0..n {
-        if s[i] != t[i] {
-            return i;
-        }
-    }
-    n
+    s.iter().zip(t).take_while(|(a, b)| a == b).count()
 }
 
-fn wrong(place: usize) -> Flaw
-    ensures { result ≡ flaw FirstLine place }
-{
-    Flaw {
-        fault: Fault::FirstLine,
-        place,
-    }
-}
-
-// Reads a first line from the left; `ended`: CR LF ended it, and no stray byte.
+// Reads a first line from the left; `ended`: CR LF ended it, and no stray byte. A flag, since only the last test asks for it.
 pub fn check_first(line: &[u8], ended: bool) -> Result<First, Flaw>
     ensures is { result ≡ check_first line.now ended }
     ensures within { FirstWithin (length line.now) result }
 {
     let method = span(line, Class::Upper);
     if method == 0 || method > 16 {
-        return Err(wrong(method.min(16)));
+        return Err(Fault::FirstLine.at(method.min(16)));
     }
     if method >= line.len() || line[method] != b' ' {
-        return Err(wrong(method));
+        return Err(Fault::FirstLine.at(method));
     }
     let start = method + 1;
     if start >= line.len() || line[start] != b'/' {
-        return Err(wrong(start));
+        return Err(Fault::FirstLine.at(start));
     }
     let target = span_before(&line[start..], b' ');
     let end = start + target;
     if end >= line.len() {
-        return Err(wrong(end));
+        return Err(Fault::FirstLine.at(end));
     }
     let version = &line[end + 1..];
     let good = agreeing(version, b"HTTP/1.1");
     if good < 8 || version.len() > 8 || !ended {
-        return Err(wrong(end + 1 + good));
+        return Err(Fault::FirstLine.at(end + 1 + good));
     }
     Ok(First { method, target })
 }

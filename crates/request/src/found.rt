@@ -10,7 +10,7 @@ use crate::reading::Reading;
 use crate::sent::SentRequest;
 use message::fault::{Fault, Flaw, Unfit};
 use message::hop::keep;
-use message::sent::{Found as Fields, read_fields, table};
+use message::sent::{read_fields, table};
 use message::sent_field::SentField;
 
 // A canonical head has at most so many bytes, its empty line included.
@@ -19,6 +19,7 @@ pub const HEAD_MOST: usize = 16384;
 // A head has at most so many fields.
 pub const FIELDS_MOST: usize = 64;
 
+// What reading has found. A fault is an answer here and no error, so that `Err` is left for a memory that does not fit.
 #[derive(Clone, Copy)]
 pub enum Found<'f, 'm> {
     // a request that is let pass, and its server, counted from 0
@@ -67,10 +68,7 @@ impl Head {
         ensures { view_finding result ≡ limited self.server self.len (view_sent_request request.entry) }
     {
         if request.head_len() > HEAD_MOST {
-            return Found::Fault(Flaw {
-                fault: Fault::TooLong,
-                place: self.len,
-            });
+            return Found::Fault(Fault::TooLong.at(self.len));
         }
         Found::Request(self.server, request)
     }
@@ -90,14 +88,12 @@ impl Head {
         }
         let len = self.len;
         let mut table = table();
-        match read_fields(&memory[0..len], self.fields, &mut table) {
-            Fields::Ended(lines, _) => {
-                let sent_on = keep(lines, fields);
-                let request = self.parts(end, memory, sent_on);
-                Ok(self.limited(request))
-            }
-            _ => Err(Unfit),
-        }
+        let Ok(Some(read)) = read_fields(&memory[0..len], self.fields, &mut table) else {
+            return Err(Unfit);
+        };
+        let sent_on = keep(read.lines, fields);
+        let request = self.parts(end, memory, sent_on);
+        Ok(self.limited(request))
     }
 }
 

@@ -1,8 +1,9 @@
 // The head of a request, judged as far as it has come: its first line, its field lines one by one, and then the whole of it for the server and
 // the body. Nothing is kept of it here but lengths: the bytes stay where they were lent.
-ghost use Rattle.std.specs.Prelude.{◌≡◌, map, length};
+ghost use Rattle.std.specs.Prelude.{◌≡◌, length};
 ghost use Rattle.text.specs.Cuts.{cut_line};
 ghost use Rattle.message.specs.Sent.{view_lines};
+ghost use Rattle.request.specs.Hosts.{names_of};
 ghost use Rattle.request.specs.Heads.{due_of, judged_fields, unended_at, unlined, judged, Sound};
 
 use crate::canonical::carries_body;
@@ -11,7 +12,7 @@ use crate::host::find_server;
 use message::chunked::Chunk;
 use message::fault::{Fault, Flaw};
 use message::framing::{Said, Size, framing};
-use message::sent::{Found, Line, read_fields, table};
+use message::sent::{Fields, Line, read_fields, table};
 use text::line::{Cut, cut_line};
 
 // A head has so many bytes to end in.
@@ -51,25 +52,16 @@ fn body_due(carries: bool, said: Option<Said>, len: usize) -> Result<Due, Flaw>
 {
     let Some(said) = said else {
         if carries {
-            return Err(Flaw {
-                fault: Fault::BodyUnfit,
-                place: len.saturating_sub(2),
-            });
+            return Err(Fault::BodyUnfit.at(len.saturating_sub(2)));
         }
         return Ok(Due::Length(0));
     };
     if !carries {
-        return Err(Flaw {
-            fault: Fault::BodyUnfit,
-            place: said.at,
-        });
+        return Err(Fault::BodyUnfit.at(said.at));
     }
     match said.size {
         Size::Chunked => Ok(Due::Chunks(Chunk::new(len))),
-        Size::Length(n) if n > BODY_MOST => Err(Flaw {
-            fault: Fault::BodyTooLong,
-            place: said.value_at,
-        }),
+        Size::Length(n) if n > BODY_MOST => Err(Fault::BodyTooLong.at(said.value_at)),
         Size::Length(n) => Ok(Due::Length(n)),
     }
 }
@@ -81,7 +73,7 @@ fn judge_fields(
     len: usize,
     servers: &[&[u8]],
 ) -> Result<(usize, Due), Flaw>
-    ensures { result ≡ judged_fields (map (λ x. x.now) servers.now) method.now (view_lines lines.now) len }
+    ensures { result ≡ judged_fields (names_of servers.now) method.now (view_lines lines.now) len }
 {
     let server = find_server(lines, servers, len.saturating_sub(2))?;
     let said = framing(lines)?;
@@ -90,16 +82,14 @@ fn judge_fields(
 }
 
 // A head that has not ended in the first `len` bytes: more is wanted as long as there is more of the window.
+#[tactic(auto, unfolding(crate::specs::Heads::window))]
 fn unended(len: usize) -> Result<Option<Judged>, Flaw>
     ensures { result ≡ unended_at len }
 {
     if len < WINDOW {
         return Ok(None);
     }
-    Err(Flaw {
-        fault: Fault::TooLong,
-        place: WINDOW,
-    })
+    Err(Fault::TooLong.at(WINDOW))
 }
 
 // Bytes in which the first line has not ended: it is judged where it has a stray byte.
@@ -115,7 +105,7 @@ fn judge_unended(window: &[u8]) -> Result<Option<Judged>, Flaw>
 
 // Judges the first bytes of a request: a head that is let pass, or that more is wanted, or the first fault.
 pub fn judge_head(window: &[u8], servers: &[&[u8]]) -> Result<Option<Judged>, Flaw>
-    ensures is { result ≡ judged (map (λ x. x.now) servers.now) window.now }
+    ensures is { result ≡ judged (names_of servers.now) window.now }
     ensures sound { Sound (length window.now) result }
 {
     let Cut::Line(line, _) = cut_line(window) else {
@@ -124,20 +114,17 @@ pub fn judge_head(window: &[u8], servers: &[&[u8]]) -> Result<Option<Judged>, Fl
     let first = check_first(line, true)?;
     let fields = line.len() + 2;
     let mut table = table();
-    match read_fields(window, fields, &mut table) {
-        Found::More => unended(window.len()),
-        Found::Wrong(flaw) => Err(flaw),
-        Found::Ended(lines, len) => {
-            let method = first.method;
-            let (server, due) = judge_fields(&line[0..method], lines, len, servers)?;
-            let head = Head {
-                len,
-                method,
-                target: first.target,
-                fields,
-                server,
-            };
-            Ok(Some(Judged { head, due }))
-        }
-    }
+    let Some(Fields { lines, end: len }) = read_fields(window, fields, &mut table)? else {
+        return unended(window.len());
+    };
+    let method = first.method;
+    let (server, due) = judge_fields(&line[0..method], lines, len, servers)?;
+    let head = Head {
+        len,
+        method,
+        target: first.target,
+        fields,
+        server,
+    };
+    Ok(Some(Judged { head, due }))
 }

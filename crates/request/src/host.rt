@@ -1,7 +1,7 @@
 // The server that a head asks for: exactly one `host`, and it names one of the servers.
-ghost use Rattle.std.specs.Prelude.{◌≡◌, map, None};
+ghost use Rattle.std.specs.Prelude.{◌≡◌, None};
 ghost use Rattle.message.specs.Sent.{view_lines};
-ghost use Rattle.request.specs.Hosts.{view_host, server_from, host_among, server_of};
+ghost use Rattle.request.specs.Hosts.{names_of, view_host, server_from, host_among, server_of};
 
 use message::fault::{Fault, Flaw};
 use message::sent::Line;
@@ -15,10 +15,7 @@ fn one_host<'a>(lines: &[Line<'a>]) -> Result<Option<Line<'a>>, Flaw>
     for line in lines {
         if eq_ignore_case(line.field.name, b"host") {
             if host.is_some() {
-                return Err(Flaw {
-                    fault: Fault::Host,
-                    place: line.at,
-                });
+                return Err(Fault::Host.at(line.at));
             }
             host = Some(*line);
         }
@@ -28,31 +25,15 @@ fn one_host<'a>(lines: &[Line<'a>]) -> Result<Option<Line<'a>>, Flaw>
 
 // Which of the servers has this name, counted from 0.
 fn server_named(servers: &[&[u8]], name: &[u8]) -> Option<usize>
-    ensures { result ≡ server_from 0 name.now (map (λ x. x.now) servers.now) }
+    ensures { result ≡ server_from 0 name.now (names_of servers.now) }
 {
-    for i in 0..servers.len() {
-        if eq_ignore_case(servers[i], name) {
-            return Some(i);
-        }
-    }
-    None
+    servers.iter().position(|s| eq_ignore_case(s, name))
 }
 
 // Which server a head asks for, counted from 0; `end`: where its empty line begins.
 pub fn find_server(lines: &[Line], servers: &[&[u8]], end: usize) -> Result<usize, Flaw>
-    ensures { result ≡ server_of (map (λ x. x.now) servers.now) end (view_lines lines.now) }
+    ensures { result ≡ server_of (names_of servers.now) end (view_lines lines.now) }
 {
-    let Some(line) = one_host(lines)? else {
-        return Err(Flaw {
-            fault: Fault::Host,
-            place: end,
-        });
-    };
-    match server_named(servers, line.field.value) {
-        Some(n) => Ok(n),
-        None => Err(Flaw {
-            fault: Fault::Host,
-            place: line.value_at,
-        }),
-    }
+    let line = one_host(lines)?.ok_or(Fault::Host.at(end))?;
+    server_named(servers, line.field.value).ok_or(Fault::Host.at(line.value_at))
 }

@@ -1,10 +1,11 @@
 // A client's bytes, read as they come. The state is small and goes by value; the bytes lie in lent memory: the head as sent, and behind it the
 // body, its chunks undone as they come. Of a piece only what belongs to the request in hand is taken, and a piece of a body costs its own
 // length. When the body is whole, the target is judged and brought into canonical form where it lies.
-ghost use Rattle.std.specs.Prelude.{◌≡◌, ◌+◌, ◌≤◌, true, map, length};
+ghost use Rattle.std.specs.Prelude.{◌≡◌, ◌+◌, ◌≤◌, true, length};
+ghost use Rattle.request.specs.Hosts.{names_of};
 ghost use Rattle.request.specs.Heads.{window};
 ghost use Rattle.request.specs.declared.reading.Reading.TheVariants.{InHead};
-ghost use Rattle.request.specs.Reading.{memory_size, placed_at, fits_head, fits_due, fits_in, finished, head_step, length_step, chunks_step, front_step, body_step, fed_by, fed_of, held_by};
+ghost use Rattle.request.specs.Reading.{memory_size, placed_at, fits_head, fits_due, fits_body, fits_in, HasRoom, finished, head_step, length_step, chunks_step, due_step, front_step, body_step, fed_by, fed_of, held_by};
 
 use crate::head::{Due, Head, WINDOW, judge_head};
 use crate::target::{check_target, undo};
@@ -14,20 +15,29 @@ use message::fault::{Flaw, Unfit};
 // The memory lent for one client: a head, and a body.
 pub const MEMORY: usize = 282624;
 
+// A body that is being read, and the head before it that is let pass: the memory is filled up to a place, and so much of the body is due.
+#[derive(Clone, Copy)]
+pub struct Body {
+    pub head: Head,
+    pub filled: usize,
+    pub due: Due,
+}
+
 // How far a request has been read.
 #[derive(Clone, Copy)]
 pub enum Reading {
     // the head has not ended; so many bytes of it have come
     InHead(usize),
-    // the head is let pass, the memory is filled up to a place, and so much of the body is due
-    InBody(Head, usize, Due),
+    // the head has ended, and the body is being read
+    InBody(Body),
     // all of it has come, and its body ends at a place; the target is in canonical form
     Whole(Head, usize),
     // the first fault
     Refused(Flaw),
 }
 
-// What a piece brought: how far the request has been read now, and how much of the piece belonged to it.
+// What a piece brought: how far the request has been read now, and how much of the piece belonged to it. Each function that feeds one says beside
+// that how much it is at most: the memory and the piece are lent anew to each, and a struct that held them would hold their loans.
 #[derive(Clone, Copy)]
 pub struct Fed {
     pub reading: Reading,
@@ -40,6 +50,21 @@ impl Head {
         ensures { result ≡ fits_head size self }
     {
         self.method < size && self.target < size - self.method
+    }
+
+    // The body is whole, and ends at `end`: judges the target, and brings it into canonical form where it lies.
+    fn finish(self, end: usize, memory: &mut [u8]) -> Reading
+        requires { fits_head (length memory.old) self ≡ true }
+        ensures told { result ≡ (finished self end memory.old).reading }
+        ensures held { memory.new ≡ (finished self end memory.old).memory }
+    {
+        let start = self.method + 1;
+        let stop = start + self.target;
+        if let Err(flaw) = check_target(&memory[start..stop]) {
+            return Reading::Refused(flaw.fault.at(start + flaw.place));
+        }
+        let target = undo(&mut memory[start..stop]);
+        Reading::Whole(Head { target, ..self }, end)
     }
 }
 
@@ -63,29 +88,12 @@ fn store(memory: &mut [u8], at: usize, bytes: &[u8])
     memory[at..at + bytes.len()].copy_from_slice(bytes);
 }
 
-// The body is whole, and ends at `end`: judges the target, and brings it into canonical form where it lies.
-fn finish(head: Head, end: usize, memory: &mut [u8]) -> Reading
-    requires { fits_head (length memory.old) head ≡ true }
-    ensures told { result ≡ (finished head end memory.old).reading }
-    ensures held { memory.new ≡ (finished head end memory.old).memory }
-{
-    let start = head.method + 1;
-    let stop = start + head.target;
-    if let Err(flaw) = check_target(&memory[start..stop]) {
-        return Reading::Refused(Flaw {
-            fault: flaw.fault,
-            place: start + flaw.place,
-        });
-    }
-    let target = undo(&mut memory[start..stop]);
-    Reading::Whole(Head { target, ..head }, end)
-}
-
 // A piece of a head, of which `filled` bytes have come: as much of it as the window has room for is stored, and all that has come is judged.
+#[tactic(auto, unfolding(crate::specs::Heads::window, crate::specs::Reading::memory_size))]
 fn feed_head(filled: usize, memory: &mut [u8], piece: &[u8], servers: &[&[u8]]) -> Fed
     requires { (filled ≤ window) × (length memory.old ≡ memory_size) }
-    ensures told { result ≡ fed_by (head_step (map (λ x. x.now) servers.now) filled memory.old piece.now) }
-    ensures held { memory.new ≡ (head_step (map (λ x. x.now) servers.now) filled memory.old piece.now).memory }
+    ensures told { result ≡ fed_by (head_step (names_of servers.now) filled memory.old piece.now) }
+    ensures held { memory.new ≡ (head_step (names_of servers.now) filled memory.old piece.now).memory }
     ensures fits { fits_in (length memory.new) result.reading ≡ true }
     ensures within { result.taken ≤ length piece.now }
 {
@@ -101,55 +109,89 @@ fn feed_head(filled: usize, memory: &mut [u8], piece: &[u8], servers: &[&[u8]]) 
             taken: n,
         },
         Ok(Some(judged)) => Fed {
-            reading: Reading::InBody(judged.head, judged.head.len, judged.due),
+            reading: Reading::InBody(Body {
+                head: judged.head,
+                filled: judged.head.len,
+                due: judged.due,
+            }),
             taken: judged.head.len.saturating_sub(filled),
         },
     }
 }
 
-// A piece of a body of which `due` bytes are still to come.
-fn feed_length(head: Head, filled: usize, due: usize, memory: &mut [u8], piece: &[u8]) -> Fed
-    requires { (fits_head (length memory.old) head ≡ true) × (filled + due ≤ length memory.old) }
-    ensures told { result ≡ fed_by (length_step head filled due memory.old piece.now) }
-    ensures held { memory.new ≡ (length_step head filled due memory.old piece.now).memory }
-    ensures within { result.taken ≤ length piece.now }
-{
-    if piece.len() < due {
-        store(memory, filled, piece);
-        return Fed {
-            reading: Reading::InBody(head, filled + piece.len(), Due::Length(due - piece.len())),
-            taken: piece.len(),
-        };
+impl Body {
+    // Whether a memory of this size has the head's parts, and room for what is due.
+    fn fits(self, size: usize) -> bool
+        ensures { result ≡ fits_body size self }
+    {
+        self.head.fits(size) && self.due.fits(self.filled, size)
     }
-    store(memory, filled, &piece[0..due]);
-    Fed {
-        reading: finish(head, filled + due, memory),
-        taken: due,
-    }
-}
 
-// A piece of a chunked body: its data goes to the free end of the memory.
-fn feed_chunks(head: Head, filled: usize, chunk: Chunk, memory: &mut [u8], piece: &[u8]) -> Fed
-    requires { (fits_head (length memory.old) head ≡ true) × (filled ≤ length memory.old) }
-    ensures told { result ≡ fed_by (chunks_step head filled chunk memory.old piece.now) }
-    ensures held { memory.new ≡ (chunks_step head filled chunk memory.old piece.now).memory }
-    ensures within { result.taken ≤ length piece.now }
-{
-    let Ok(fed) = chunk.feed(&mut memory[filled..], piece) else {
-        return Fed {
-            reading: Reading::InBody(head, filled, Due::Chunks(chunk)),
-            taken: 0,
+    // A piece of a body of which `due` bytes are still to come.
+    fn feed_length(self, due: usize, memory: &mut [u8], piece: &[u8]) -> Fed
+        requires { HasRoom (length memory.old) self due }
+        ensures told { result ≡ fed_by (length_step self.head self.filled due memory.old piece.now) }
+        ensures held { memory.new ≡ (length_step self.head self.filled due memory.old piece.now).memory }
+        ensures within { result.taken ≤ length piece.now }
+    {
+        if piece.len() < due {
+            store(memory, self.filled, piece);
+            let left = Body {
+                filled: self.filled + piece.len(),
+                due: Due::Length(due - piece.len()),
+                ..self
+            };
+            return Fed {
+                reading: Reading::InBody(left),
+                taken: piece.len(),
+            };
+        }
+        store(memory, self.filled, &piece[0..due]);
+        Fed {
+            reading: self.head.finish(self.filled + due, memory),
+            taken: due,
+        }
+    }
+
+    // A piece of a chunked body: its data goes to the free end of the memory.
+    fn feed_chunks(self, chunk: Chunk, memory: &mut [u8], piece: &[u8]) -> Fed
+        requires { HasRoom (length memory.old) self 0 }
+        ensures told { result ≡ fed_by (chunks_step self.head self.filled chunk memory.old piece.now) }
+        ensures held { memory.new ≡ (chunks_step self.head self.filled chunk memory.old piece.now).memory }
+        ensures within { result.taken ≤ length piece.now }
+    {
+        let Body { head, filled, .. } = self;
+        let Ok(fed) = chunk.feed(&mut memory[filled..], piece) else {
+            let due = Due::Chunks(chunk);
+            return Fed {
+                reading: Reading::InBody(Body { due, ..self }),
+                taken: 0,
+            };
         };
-    };
-    let filled = filled + fed.written;
-    let reading = match fed.outcome {
-        Outcome::More => Reading::InBody(head, filled, Due::Chunks(fed.chunk)),
-        Outcome::Whole => finish(head, filled, memory),
-        Outcome::Wrong(flaw) => Reading::Refused(flaw),
-    };
-    Fed {
-        reading,
-        taken: fed.taken,
+        let filled = filled + fed.written;
+        let due = Due::Chunks(fed.chunk);
+        let reading = match fed.outcome {
+            Outcome::More => Reading::InBody(Body { head, filled, due }),
+            Outcome::Whole => head.finish(filled, memory),
+            Outcome::Wrong(flaw) => Reading::Refused(flaw),
+        };
+        Fed {
+            reading,
+            taken: fed.taken,
+        }
+    }
+
+    // A piece of the body: takes what belongs to it.
+    fn feed(self, memory: &mut [u8], piece: &[u8]) -> Fed
+        requires { fits_body (length memory.old) self ≡ true }
+        ensures told { result ≡ fed_by (due_step self.head self.filled self.due memory.old piece.now) }
+        ensures held { memory.new ≡ (due_step self.head self.filled self.due memory.old piece.now).memory }
+        ensures within { result.taken ≤ length piece.now }
+    {
+        match self.due {
+            Due::Length(due) => self.feed_length(due, memory, piece),
+            Due::Chunks(chunk) => self.feed_chunks(chunk, memory, piece),
+        }
     }
 }
 
@@ -162,13 +204,14 @@ impl Reading {
     }
 
     // Whether the memory has the size that is asked for, and the parts of it that the state speaks of are there.
+    #[tactic(auto, unfolding(crate::specs::Heads::window, crate::specs::Reading::memory_size))]
     fn fits(self, size: usize) -> bool
         ensures { result ≡ fits_in size self }
     {
         size == MEMORY
             && match self {
                 Reading::InHead(filled) => filled <= WINDOW,
-                Reading::InBody(head, filled, due) => head.fits(size) && due.fits(filled, size),
+                Reading::InBody(body) => body.fits(size),
                 Reading::Whole(..) | Reading::Refused(_) => true,
             }
     }
@@ -176,8 +219,8 @@ impl Reading {
     // A piece of a head, or of nothing.
     fn feed_front(self, memory: &mut [u8], piece: &[u8], servers: &[&[u8]]) -> Fed
         requires { fits_in (length memory.old) self ≡ true }
-        ensures told { result ≡ fed_by (front_step (map (λ x. x.now) servers.now) self memory.old piece.now) }
-        ensures held { memory.new ≡ (front_step (map (λ x. x.now) servers.now) self memory.old piece.now).memory }
+        ensures told { result ≡ fed_by (front_step (names_of servers.now) self memory.old piece.now) }
+        ensures held { memory.new ≡ (front_step (names_of servers.now) self memory.old piece.now).memory }
         ensures fits { fits_in (length memory.new) result.reading ≡ true }
         ensures within { result.taken ≤ length piece.now }
     {
@@ -198,12 +241,7 @@ impl Reading {
         ensures within { result.taken ≤ length piece.now }
     {
         match self {
-            Reading::InBody(head, filled, Due::Length(due)) => feed_length(
-                head, filled, due, memory, piece,
-            ),
-            Reading::InBody(head, filled, Due::Chunks(chunk)) => feed_chunks(
-                head, filled, chunk, memory, piece,
-            ),
+            Reading::InBody(body) => body.feed(memory, piece),
             _ => Fed {
                 reading: self,
                 taken: 0,
@@ -213,8 +251,8 @@ impl Reading {
 
     // Reads a piece, for servers of these names: takes what belongs to the request in hand, and no byte behind it.
     pub fn feed(self, memory: &mut [u8], piece: &[u8], servers: &[&[u8]]) -> Result<Fed, Unfit>
-        ensures told { result ≡ fed_of (map (λ x. x.now) servers.now) self memory.old piece.now }
-        ensures held { memory.new ≡ held_by (map (λ x. x.now) servers.now) self memory.old piece.now }
+        ensures told { result ≡ fed_of (names_of servers.now) self memory.old piece.now }
+        ensures held { memory.new ≡ held_by (names_of servers.now) self memory.old piece.now }
     {
         if !self.fits(memory.len()) {
             return Err(Unfit);

@@ -1,13 +1,15 @@
 // The target of a request: its path is judged as tokens (a byte, or a code of `%` and two digits) and in parts, its query byte by byte; and a
 // good target is brought into canonical form in place, which never makes it longer.
-ghost use Rattle.std.specs.Prelude.{◌≡◌, ◌+◌, ◌<◌, ◌≤◌, length, drop, IfSome, IfErr};
+ghost use Rattle.std.specs.Prelude.{◌≡◌, ◌<◌, ◌≤◌, length, drop, IfSome, IfErr};
+ghost use Rattle.std.specs.Iterator.{YieldsFirst, item_count};
 ghost use Rattle.text.specs.Bytes.{Wrote, placed};
-ghost use Rattle.request.specs.Targets.{tokens, token_at, width, code_value, good_token, bad_token, ends_in_dot, bad_part, bad_part_of, bad_query, check_target, capital, spell, undone_path, undone};
+ghost use Rattle.request.specs.Targets.{tokens, first_token, width, good_token, bad_token, ends_in_dot, bad_part, bad_part_of, bad_query, check_target, capital, spell, undone_path, undone};
 
 use message::fault::{Fault, Flaw};
 use text::kind::kind_of;
+use text::mark::pieces;
 use text::name::{eq, eq_ignore_case};
-use text::numeral::Base;
+use text::numeral::hex_pair;
 use text::output::put;
 use text::span::{Class, span, span_before};
 
@@ -18,15 +20,6 @@ pub enum Token {
     Byte(u8),
     // the two bytes after a `%`
     Code(u8, u8),
-}
-
-// What two bytes after a `%` stand for.
-fn code_value(a: u8, b: u8) -> Option<u8>
-    ensures { result ≡ code_value a b }
-{
-    let high = Base::Hexadecimal.digit_value(a)?;
-    let low = Base::Hexadecimal.digit_value(b)?;
-    Some(high * 16 + low)
 }
 
 // A hexadecimal digit in capitals.
@@ -40,16 +33,15 @@ fn capital(b: u8) -> u8
 }
 
 impl Token {
-    // The token that stands at `i`.
-    fn read(path: &[u8], i: usize) -> Token
-        requires { i < length path.now }
-        ensures is { result ≡ token_at i path.now }
-        ensures within { i + width result ≤ length path.now }
+    // The token that a path begins with; none where the path is empty.
+    fn first(path: &[u8]) -> Option<Token>
+        ensures is { result ≡ first_token path.now }
+        ensures within { IfSome result (λ t. width t ≤ length path.now) }
     {
-        if path[i] == b'%' && path.len() - i > 2 {
-            Token::Code(path[i + 1], path[i + 2])
-        } else {
-            Token::Byte(path[i])
+        match path {
+            [] => None,
+            [b'%', a, b, ..] => Some(Token::Code(*a, *b)),
+            [b, ..] => Some(Token::Byte(*b)),
         }
     }
 
@@ -69,7 +61,7 @@ impl Token {
     {
         match self {
             Token::Byte(b) => kind_of(b).is_plain() || b == b'/',
-            Token::Code(a, b) => match code_value(a, b) {
+            Token::Code(a, b) => match hex_pair(a, b) {
                 Some(v) => kind_of(v).is_plain() || v >= 128,
                 None => false,
             },
@@ -83,7 +75,7 @@ impl Token {
     {
         match self {
             Token::Byte(b) => put(out, &[b]),
-            Token::Code(a, b) => match code_value(a, b) {
+            Token::Code(a, b) => match hex_pair(a, b) {
                 None => put(out, &[b'%', a, b]),
                 Some(v) if kind_of(v).is_plain() => put(out, &[v]),
                 Some(_) => put(out, &[b'%', capital(a), capital(b)]),
@@ -92,18 +84,35 @@ impl Token {
     }
 }
 
+// The tokens of a path, from the left.
+#[derive(Drop)]
+struct Tokens<'a>(&'a [u8]);
+
+impl Iterator for Tokens<'_> {
+    type Item = Token;
+
+    ghost next_gives = { YieldsFirst (λ s. tokens s.0.now) };
+
+    ghost remaining = { item_count (λ s. tokens s.0.now) };
+
+    fn next(&mut self) -> Option<Token> {
+        let token = Token::first(self.0)?;
+        self.0 = &self.0[token.width()..];
+        Some(token)
+    }
+}
+
 // Where the first token stands that a path may not have.
 fn bad_token(path: &[u8]) -> Option<usize>
     ensures is { result ≡ bad_token 0 (tokens path.now) }
     ensures within { IfSome result (λ n. n ≤ length path.now) }
 {
-    let mut i: usize = 0;
-    while i < path.len() {
-        let token = Token::read(path, i);
+    let mut at: usize = 0;
+    for token in Tokens(path) {
         if !token.is_good() {
-            return Some(i);
+            return Some(at);
         }
-        i += token.width();
+        at += token.width();
     }
     None
 }
@@ -132,12 +141,11 @@ fn bad_part(path: &[u8]) -> Option<usize>
         return None;
     }
     let mut at: usize = 1;
-    while at <= path.len() {
-        let end = at + span_before(&path[at..], b'/');
-        if is_bad_part(&path[at..end]) {
-            return Some(end);
+    for part in pieces(&path[1..], b'/') {
+        if is_bad_part(part) {
+            return Some(at + part.len());
         }
-        at = end + 1;
+        at += part.len() + 1;
     }
     None
 }
@@ -159,25 +167,16 @@ pub fn check_target(target: &[u8]) -> Result<(), Flaw>
     let mark = span_before(target, b'?');
     let path = &target[0..mark];
     if let Some(place) = bad_token(path) {
-        return Err(Flaw {
-            fault: Fault::PathByte,
-            place,
-        });
+        return Err(Fault::PathByte.at(place));
     }
     if let Some(place) = bad_part(path) {
-        return Err(Flaw {
-            fault: Fault::PathPart,
-            place,
-        });
+        return Err(Fault::PathPart.at(place));
     }
     if mark >= target.len() {
         return Ok(());
     }
     match bad_query(&target[mark + 1..]) {
-        Some(n) => Err(Flaw {
-            fault: Fault::QueryByte,
-            place: mark + 1 + n,
-        }),
+        Some(n) => Err(Fault::QueryByte.at(mark + 1 + n)),
         None => Ok(()),
     }
 }
@@ -189,8 +188,8 @@ fn undo_path(path: &mut [u8]) -> usize
 {
     let mut at: usize = 0;
     let mut i: usize = 0;
-    while i < path.len() {
-        let token = Token::read(path, i);
+    // by places, since the front of the path is written over while the rest of it is read
+    while let Some(token) = Token::first(&path[i..]) {
         i += token.width();
         at += token.put(&mut path[at..]);
     }
@@ -202,11 +201,8 @@ fn move_down(s: &mut [u8], from: usize) -> usize
     requires { from ≤ length s.old }
     ensures { Wrote (drop from s.old) s.old s.new result }
 {
-    let n = s.len() - from;
-    for i in 0..n {
-        s[i] = s[from + i];
-    }
-    n
+    s.copy_within(from.., 0);
+    s.len() - from
 }
 
 // Brings a target into canonical form, in place, and says how many bytes it then has; what lies behind them stays as it was.

@@ -75,7 +75,7 @@ fn empty_value_and_body(rt: HostRuntime) -> Result<(), Fail> {
 
 #[test]
 fn no_room_says_how_much(rt: HostRuntime) -> Result<(), Fail> {
-    let request = Request {
+    let request: Request<'_, '_, Field> = Request {
         method: b"GET",
         target: b"/ab",
         fields: &[],

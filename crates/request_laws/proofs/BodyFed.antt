@@ -4,11 +4,10 @@ use lib.Seq.{take-append-add}
 use Rattle.std.proofs.lemmas.List.{length-append, length-take-le, length-drop, take-append-le, drop-append-le}
 use Rattle.std.proofs.lemmas.Bool.{cond_both, cond-true, cond-false, ltb-true, ltb-false, le-leb, lt-leb}
 use Rattle.text.specs.Bytes.{Text}
-use Rattle.request.specs.Reading.{after, memory_size, placed_at, ending, finished, length_step}
+use Rattle.request.specs.Reading.{after, memory_size, placed_at, in_body, ending, finished, length_step}
 use Rattle.request.specs.declared.head.Head.{Head}
 use Rattle.request.specs.declared.head.Due.{Due}
 use Rattle.request.specs.declared.head.Due.TheVariants.{Length}
-use Rattle.request.specs.declared.reading.Reading.TheVariants.{InBody}
 use Rattle.request_laws.specs.Outcome.{whole, judged_whole, outcome}
 use Rattle.request_laws.proofs.MemoryPlaced.{placed_long, placed_upto}
 use Rattle.request_laws.proofs.RequestFinished.{Lies, finished_finds, finished_over}
@@ -46,7 +45,7 @@ module _ (names : List Text) (s piece : Text) (head : Head) (filled : ℕ) (star
         size = over.1 ∙ then_size;
         final = whole (judged_whole head front (b.body ++ ys)) total;
         is = is;
-        ends = λ e. let z : ◌≡◌ {A = ℕ} 0 1 = cc in omega arith;
+        ends = λ e. cc;
         finds = finished_finds head front (b.body ++ ys) (placed_at filled ys memory) (filled + length ys) lie then_fill fits then_held;
         took = λ n. refl;
       }
@@ -71,7 +70,7 @@ module _ (names : List Text) (s piece : Text) (head : Head) (filled n d : ℕ) (
   behind : drop len (s ++ piece) ≡ b.body ++ piece
   behind = drop-append-le len s piece all ∙ ap (λ t. t ++ piece) (sym b.so.1)
 
-  wants_more : length piece < d → Comes names (s ++ piece) (length s) (after (InBody head (filled + length piece) (Length (d - length piece))) (length piece) (placed_at filled piece memory))
+  wants_more : length piece < d → Comes names (s ++ piece) (length s) (after (in_body head (filled + length piece) (Length (d - length piece))) (length piece) (placed_at filled piece memory))
   wants_more h =
       let fits : filled + length piece ≤ memory_size = omega (arith, room) in
       let few : length (s ++ piece) < len + n = simp length-append (omega (arith, body_long, b.so.0)) in
@@ -103,5 +102,5 @@ module _ (names : List Text) (s piece : Text) (head : Head) (filled n d : ℕ) (
 
   pub length_fed : Comes names (s ++ piece) (length s) (length_step head filled d memory piece)
   length_fed =
-      cond_both (ltb (length piece) d) (after (InBody head (filled + length piece) (Length (d - length piece))) (length piece) (placed_at filled piece memory)) (ending head (filled + d) d (placed_at filled (take d piece) memory))
+      cond_both (ltb (length piece) d) (after (in_body head (filled + length piece) (Length (d - length piece))) (length piece) (placed_at filled piece memory)) (ending head (filled + d) d (placed_at filled (take d piece) memory))
       (Comes names (s ++ piece) (length s)) (λ e. wants_more (ltb-true _ _ e)) (λ e. has_all (ltb-false _ _ e))

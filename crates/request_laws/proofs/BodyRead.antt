@@ -35,12 +35,12 @@ length_there head h tail n f end e =
     let there = leb-true (head.len + n) (length s) t in
     let w = same_whole g in
     (omega (arith, length-append h tail), ap₂ (λ a b. judged_whole head a (take n b)) (sym (take_at h tail head.len e)) (sym (drop_at h tail head.len e)) ∙ w.0, w.1))
-    (λ _ g. let z : ◌≡◌ {A = ℕ} 0 1 = cc in absurd (omega arith))
+    (λ _ g. cc)
 
 -- chunks are all there
 run_whole : (head : Head) (s : Text) (r : Run) (o : Ran) (f : Finding) (end : ℕ) → on_run head s r o ≡ whole f end → (o ≡ Whole) × (judged_whole head (take head.len s) r.body ≡ f) × (head.len + r.taken ≡ end)
-run_whole head s r More f end g = let z : ◌≡◌ {A = ℕ} 0 1 = cc in absurd (omega arith)
-run_whole head s r (Wrong w) f end g = let z : ◌≡◌ {A = ℕ} 0 1 = cc in absurd (omega arith)
+run_whole head s r More f end g = cc
+run_whole head s r (Wrong w) f end g = cc
 run_whole head s r Whole f end g = let w = same_whole g in (refl, w.0, w.1)
 
 chunks_on : (head : Head) (h tail : Text) (c : Chunk) → length h ≡ head.len → on_due head (h ++ tail) (Chunks c) ≡ on_run head (h ++ tail) (run c tail) (run c tail).outcome

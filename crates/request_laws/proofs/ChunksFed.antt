@@ -13,10 +13,9 @@ use Rattle.message_laws.proofs.Cuts.{cut_free}
 use Rattle.message_laws.proofs.Only.{only_chunks}
 use Rattle.message_laws.proofs.Rooms.{fit}
 use Rattle.request.specs.Canonical.{body_limit}
-use Rattle.request.specs.Reading.{memory_size, placed_at, finished, on_outcome, on_chunks, chunks_step}
+use Rattle.request.specs.Reading.{memory_size, placed_at, in_body, finished, on_outcome, on_chunks, chunks_step}
 use Rattle.request.specs.declared.head.Head.{Head}
 use Rattle.request.specs.declared.head.Due.TheVariants.{Chunks}
-use Rattle.request.specs.declared.reading.Reading.TheVariants.{InBody}
 use Rattle.request_laws.specs.Outcome.{broken, whole, judged_whole, on_run, outcome}
 use Rattle.request_laws.proofs.BodyFed.{then_size, then_fill, then_held, then_whole}
 use Rattle.request_laws.proofs.MemoryPlaced.{placed_on}
@@ -97,7 +96,7 @@ module _ (names : List Text) (s piece : Text) (head : Head) (filled : ℕ) (c0 c
       let room : len + length (b.body ++ next.body) ≤ memory_size = omega (arith, room_most) in
       let fits = fits_all room in
       going (omega (arith, sum, sofar_long, count)) (outcome_so More e)
-      (subst (Stands names (s ++ piece) (InBody head (filled + length next.body) (Chunks next.chunk))) (sym (then_is room)) (
+      (subst (Stands names (s ++ piece) (in_body head (filled + length next.body) (Chunks next.chunk))) (sym (then_is room)) (
         Chunks c0,
         record {
           judges = still names s head (Chunks c0) b.judges piece;
@@ -131,7 +130,7 @@ module _ (names : List Text) (s piece : Text) (head : Head) (filled : ℕ) (c0 c
         size = length-append (take filled memory) (placed next.body (drop filled memory)) ∙ omega (arith, length_placed next.body (drop filled memory), length-take filled memory, length-drop filled memory, b.size);
         final = broken w;
         is = outcome_so (Wrong w) e;
-        ends = λ z. let k : ◌≡◌ {A = ℕ} 0 1 = cc in omega arith;
+        ends = λ z. cc;
         finds = refl;
         took = λ n. tt;
       }

@@ -2,9 +2,9 @@
 use Rattle.std.proofs.Common.{◌≡◌, ℕ, ◌+◌, ◌-◌, ◌*◌, ◌<◌, ◌≤◌, Bool, true, false, cond, ◌&&◌, ◌||◌, T, eqb, [], ◌∷◌, Some, None, codes, Option, sym, refl, ap, ◌∙◌, arith}
 use Rattle.std.proofs.lemmas.Bool.Decides.{nat_tests}
 use Rattle.text.specs.Bytes.{between, digit, lower, visible, plain_byte, same, lowered, same_no_case}
-use Rattle.text.specs.Numerals.{hex_value, on_digit}
+use Rattle.text.specs.Numerals.{hex_pair, hex_value, on_digit}
 use Rattle.text.proofs.Passing.{is_true, and_l, and_r, differs, so}
-use Rattle.request.specs.Targets.{code_value, capital}
+use Rattle.request.specs.Targets.{capital}
 use Rattle.request.specs.Places.{high_digit, capital_digit}
 
 -- a hexadecimal digit, in either case
@@ -61,21 +61,21 @@ pub record Digits (a b v : ℕ) : Type 0 where
   pub worth : v ≡ high * 16 + low
 
 digits_of : (a b v : ℕ) (o p : Option ℕ) → hex_value a ≡ o → hex_value b ≡ p → on_digit o (λ x. on_digit p (λ y. Some (x * 16 + y))) ≡ Some v → Digits a b v
-digits_of a b v None p e f g = let z : ◌≡◌ {A = ℕ} 0 1 = cc in absurd (omega arith)
-digits_of a b v (Some x) None e f g = let z : ◌≡◌ {A = ℕ} 0 1 = cc in absurd (omega arith)
+digits_of a b v None p e f g = cc
+digits_of a b v (Some x) None e f g = cc
 digits_of a b v (Some x) (Some y) e f g = record { high = x; low = y; first = e; second = f; worth = cc }
 
-pub digits : (a b v : ℕ) → code_value a b ≡ Some v → Digits a b v
+pub digits : (a b v : ℕ) → hex_pair a b ≡ Some v → Digits a b v
 digits a b v e = digits_of a b v (hex_value a) (hex_value b) refl refl e
 
-pub first_digit : (a b v : ℕ) → code_value a b ≡ Some v → T (hex_digit a)
+pub first_digit : (a b v : ℕ) → hex_pair a b ≡ Some v → T (hex_digit a)
 first_digit a b v e = let d = digits a b v e in rw (hex_digit_so a d.high d.first) tt
 
-pub second_digit : (a b v : ℕ) → code_value a b ≡ Some v → T (hex_digit b)
+pub second_digit : (a b v : ℕ) → hex_pair a b ≡ Some v → T (hex_digit b)
 second_digit a b v e = let d = digits a b v e in rw (hex_digit_so b d.low d.second) tt
 
 -- of a byte above 127, in capitals
-pub capitals : (a b v : ℕ) → code_value a b ≡ Some v → 128 ≤ v → T (high_digit (capital a) && capital_digit (capital b))
+pub capitals : (a b v : ℕ) → hex_pair a b ≡ Some v → 128 ≤ v → T (high_digit (capital a) && capital_digit (capital b))
 capitals a b v e h =
     let d = digits a b v e in
     let small = hex_small b d.low d.second in
@@ -101,7 +101,7 @@ high_worth c h = grind (arith, nat_tests)
 -- a code of two such digits
 pub record Kept (a b : ℕ) : Type 0 where
   pub value : ℕ
-  pub read : code_value a b ≡ Some value
+  pub read : hex_pair a b ≡ Some value
   pub high : 128 ≤ value
   pub first : capital a ≡ a
   pub second : capital b ≡ b
@@ -123,7 +123,7 @@ kept a b h =
 dot_worth : (x y : ℕ) → y < 16 → (eqb x 2 && (eqb y 14 && true)) ≡ eqb (x * 16 + y) 46
 dot_worth x y h = grind (arith, nat_tests)
 
-pub dot_code : (a b v : ℕ) → code_value a b ≡ Some v → (eqb b 46 || same_no_case (37 ∷ a ∷ b ∷ []) (codes "%2e")) ≡ eqb v 46
+pub dot_code : (a b v : ℕ) → hex_pair a b ≡ Some v → (eqb b 46 || same_no_case (37 ∷ a ∷ b ∷ []) (codes "%2e")) ≡ eqb v 46
 unfolding same lowered
 dot_code a b v e =
     let d = digits a b v e in

@@ -23,9 +23,9 @@ use Rattle.request_laws.proofs.Stands.{capacity, Body, Stands, Rests, At, going,
 -- a piece that comes while more is wanted
 step_fed : (names : List Text) (s piece : Text) (r : Reading) (memory : Text) → Stands names s r memory → length (s ++ piece) < 2 ^ 64 → Comes names (s ++ piece) (length s) (step names r memory piece)
 step_fed names s piece (InHead filled) memory (size, fill, held, unended) counted = head_fed names s piece filled memory size fill held unended counted
-step_fed names s piece (InBody head filled due) memory (start, b) counted =
-    let x = due_step head filled due memory piece in
-    subst (λ n. At names (s ++ piece) (length s + n) x.reading x.memory) (sym (zero-add x.taken)) (body_fed names s piece head filled start due memory b counted)
+step_fed names s piece (InBody h) memory (start, b) counted =
+    let x = due_step h.head h.filled h.due memory piece in
+    subst (λ n. At names (s ++ piece) (length s + n) x.reading x.memory) (sym (zero-add x.taken)) (body_fed names s piece h.head h.filled start h.due memory b counted)
 step_fed names s piece (Whole head end) memory st counted = absurd st
 step_fed names s piece (Refused w) memory st counted = absurd st
 
@@ -42,10 +42,11 @@ state_fits : (names : List Text) (s : Text) (r : Reading) (memory : Text) → St
 state_fits names s (InHead filled) memory (size, fill, held, unended) =
     let in_window : filled ≤ window = omega (arith, room_left names s unended) in
     and_from _ _ (eq-eqb (length memory) memory_size size) (le-leb filled window in_window)
-state_fits names s (InBody head filled due) memory (start, b) =
+state_fits names s (InBody h) memory (start, b) =
+    let head = h.head in
     let k = known names s head start b.judges in
     let there : head.method + 1 + head.target ≤ length memory = omega (arith, k.parts, k.fields, in_window names s head start b.judges, capacity, b.size) in
-    and_from _ _ (eq-eqb (length memory) memory_size b.size) (and_from _ _ (le-leb (head.method + 1 + head.target) (length memory) there) (due_fits names s head filled start due memory b))
+    and_from _ _ (eq-eqb (length memory) memory_size b.size) (and_from _ _ (le-leb (head.method + 1 + head.target) (length memory) there) (due_fits names s head h.filled start h.due memory b))
 state_fits names s (Whole head end) memory st = absurd st
 state_fits names s (Refused w) memory st = absurd st
 
@@ -60,7 +61,7 @@ feed_one names r memory p ps a fits next =
 rests_on : (names : List Text) (r : Reading) (memory : Text) (ps : List Text) → Over r → length memory ≡ memory_size → feeding names r memory ps ≡ Ok (after r 0 memory)
 unfolding feeding
 rests_on names (InHead filled) memory ps o size = absurd o
-rests_on names (InBody head filled due) memory ps o size = absurd o
+rests_on names (InBody h) memory ps o size = absurd o
 rests_on names (Whole head end) memory [] o size = refl
 rests_on names (Whole head end) memory (p ∷ ps) o size = feed_one names (Whole head end) memory p ps (after (Whole head end) 0 memory) (and_from _ _ (eq-eqb (length memory) memory_size size) refl) (rests_on names (Whole head end) memory ps tt size)
 rests_on names (Refused w) memory [] o size = refl
@@ -83,7 +84,7 @@ rests_feed names s n r memory ps h =
 
 wants_found : (names : List Text) (s : Text) (r : Reading) (memory : Text) → Stands names s r memory → found_in r memory ≡ Ok more
 wants_found names s (InHead filled) memory st = refl
-wants_found names s (InBody head filled due) memory st = refl
+wants_found names s (InBody h) memory st = refl
 wants_found names s (Whole head end) memory st = absurd st
 wants_found names s (Refused w) memory st = absurd st
 

@@ -4,11 +4,11 @@ use Rattle.std.specs.List.{prefix_len}
 use Rattle.std.proofs.lemmas.Result.{IfOk-at_ok, MatchResult-at_err}
 use Rattle.std.proofs.lemmas.List.Sums.{prefix_len-le-length}
 use Rattle.std.proofs.lemmas.Bool.{cond_both, or_cases, or_parts, cases_lt, eqb-true, eqb-false, leb-true, leb-false, ltb-true, ltb-false, lt-ltb}
-use Rattle.std.proofs.lemmas.List.{length-append, length-drop, length-take-le, take-take}
+use Rattle.std.proofs.lemmas.List.{length-append, length-drop, length-take-le}
 use Rattle.text.specs.Bytes.{Text, name_byte, value_byte, all}
 use Rattle.text.specs.Marks.{before}
 use Rattle.text.specs.Trims.{trimmed}
-use Rattle.text.proofs.Passing.{all_take, all_append}
+use Rattle.text.proofs.Passing.{all_append}
 use Rattle.text_laws.proofs.Ends.{trims}
 use Rattle.message.specs.Faults.{flaw}
 use Rattle.message.specs.Fields.{name_limit}
@@ -17,7 +17,7 @@ use Rattle.message.specs.declared.fault.Fault.TheVariants.{TooLong, FieldLine}
 use Rattle.message.specs.declared.fault.Flaw.{Flaw}
 use Rattle.message_laws.specs.Breaks.{Breaks}
 use Rattle.request_laws.specs.Faults.{GoodField}
-use Rattle.request_laws.proofs.Leads.{all_leading, mark_at, nonempty_by}
+use Rattle.request_laws.proofs.Leads.{all_leading, leads, mark_at, nonempty_by}
 use Rattle.request_laws.proofs.Fields.{Good, good, field_read, field_spelled, stray_field}
 use Rattle.request_laws.proofs.Breaking.{Stops, breaks_by, one_place, no_more, drop_front, leading_front, leading_least, take_mark}
 
@@ -35,29 +35,24 @@ name_line : (name behind : Text) → 0 < length name → length name ≤ name_li
 name_line name behind some few named bytes =
     (record { name = name; value = trimmed behind }, record { behind = behind; named = (nonempty_by name some, few, named); bytes = bytes; trims = (trims behind (trimmed behind)).0 refl; text = refl })
 
--- letters, digits and hyphens in the front
-names : (l : Text) (j : ℕ) → j ≤ prefix_len name_byte l → T (all name_byte (take j l)) × (length (take j l) ≡ j)
-names l j h =
-    (rw (take-take j (prefix_len name_byte l) l h) at (all_take name_byte j (take (prefix_len name_byte l) l) (all_leading name_byte l)), length-take-le j l (omega (arith, prefix_len-le-length name_byte l)))
-
 -- after a name that may be longer: another letter, a colon
 after_letter : (l : Text) (j : ℕ) → j ≤ prefix_len name_byte l → j < name_limit → GoodField (take j l ++ (97 ∷ 58 ∷ []))
 unfolding all
 after_letter l j h few =
-    let k = names l j h in
+    let k = leads name_byte l j h in
     let longer : length (take j l ++ (97 ∷ [])) ≡ j + 1 = length-append (take j l) (97 ∷ []) ∙ omega (arith, k.1) in
     subst GoodField (append_assoc (take j l) (97 ∷ []) (58 ∷ [])) (name_line (take j l ++ (97 ∷ [])) [] (omega arith) (omega arith) (all_append name_byte (take j l) (97 ∷ []) k.0 tt) tt)
 
 -- after a name: a colon
 after_name : (l : Text) (j : ℕ) → j ≤ prefix_len name_byte l → 0 < j → j ≤ name_limit → GoodField (take j l ++ (58 ∷ []))
 unfolding all
-after_name l j h some few = let k = names l j h in name_line (take j l) [] (omega (arith, k.1)) (omega (arith, k.1)) k.0 tt
+after_name l j h some few = let k = leads name_byte l j h in name_line (take j l) [] (omega (arith, k.1)) (omega (arith, k.1)) k.0 tt
 
 -- after a part of a value: nothing
 after_value : (l : Text) (n : ℕ) → n ≡ before 58 l → n ≤ prefix_len name_byte l → 0 < n → n ≤ name_limit → n < length l → GoodField (take (n + 1 + prefix_len value_byte (drop (n + 1) l)) l ++ [])
 after_value l n is h some few long =
     let d = drop (n + 1) l in
-    let k = names l n h in
+    let k = leads name_byte l n h in
     let mark = ap (λ i. get_or l i 0) is ∙ mark_at 58 l (omega arith) in
     subst GoodField (sym (append-nil _ ∙ take_mark n (prefix_len value_byte d) 58 l long mark)) (name_line (take n l) (take (prefix_len value_byte d) d) (omega (arith, k.1)) (omega (arith, k.1)) k.0 (all_leading value_byte d))
 
@@ -139,7 +134,7 @@ stops at l ended =
     (λ e. tt))))
 
 not_good : (at : ℕ) (l : Text) (ended : Bool) (v : Flaw) → check_field at l ended ≡ Err v → GoodField l → ended ≡ false
-not_good at l true v e g = let k = (field_spelled at l g.0 g.1).0 in let z : ◌≡◌ {A = ℕ} 0 1 = cc in absurd (omega arith)
+not_good at l true v e g = let k = (field_spelled at l g.0 g.1).0 in cc
 not_good at l false v e g = refl
 
 -- where a field line is refused it breaks
@@ -156,7 +151,7 @@ good_whole at l true n e = ((_, field_read at l n e), refl)
 good_whole at l false n e = absurd (stray_field at l n e)
 
 refused : (at : ℕ) (l : Text) (ended : Bool) (p : ℕ) (r : Result ℕ Flaw) → check_field at l ended ≡ r → before 58 l ≤ name_limit → Breaks GoodField l ended p → r ≡ Err (flaw FieldLine (at + p))
-refused at l ended p (Ok n) e h b = let g = good_whole at l ended n e in let f = b.bad g.0 in let z : ◌≡◌ {A = ℕ} 0 1 = cc in absurd (omega arith)
+refused at l ended p (Ok n) e h b = let g = good_whole at l ended n e in let f = b.bad g.0 in cc
 refused at l ended p (Err v) e h b =
     ⊎_elim (λ k. let less = k.0 in absurd (omega arith)) (λ k. ap Err (k.1 ∙ ap (λ q. flaw FieldLine (at + q)) (one_place GoodField l ended ended k.0 p k.3 b))) (field_breaks at l ended v e)
 

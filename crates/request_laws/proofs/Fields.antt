@@ -3,18 +3,18 @@ use Rattle.std.proofs.Common.{◌≡◌, ℕ, zero, suc, ◌+◌, ◌<◌, ◌�
 use Rattle.std.specs.List.{prefix_len}
 use Rattle.std.proofs.lemmas.Result.{IfOk-at_ok}
 use Rattle.std.proofs.lemmas.Bool.{cond_both, false≢true, ne_eqb, lt-leb, le-ltb, eqb-false, leb-false, ltb-false, not-false, or_parts}
-use Rattle.std.proofs.lemmas.List.{length-append, length-drop, length-take-le, take_all, take-take, take_at, take-append-drop, drop_at, drop-drop, drop_more}
+use Rattle.std.proofs.lemmas.List.{length-append, length-drop, length-take-le, take_all, take_at, take-append-drop, drop_at, drop-drop, drop_more}
 use Rattle.text.specs.Bytes.{Text, name_byte, value_byte, all, nonempty, clean}
 use Rattle.text.specs.Marks.{before}
 use Rattle.text.specs.Trims.{trimmed}
-use Rattle.text.proofs.Passing.{all_take, all_weaker, all_append, clean_by, differs}
+use Rattle.text.proofs.Passing.{all_weaker, all_append, clean_by, differs}
 use Rattle.text_laws.proofs.Fronts.{leading_at}
 use Rattle.text_laws.proofs.Ends.{trims}
 use Rattle.message.specs.Fields.{Field, name_limit}
 use Rattle.message.specs.Hops.{field_of}
 use Rattle.message.specs.Sent.{check_at, check_field, check_line, sent_at}
 use Rattle.request_laws.specs.Lines.{FieldSpelled}
-use Rattle.request_laws.proofs.Leads.{all_leading, mark_at, nonempty_by, nonempty_long}
+use Rattle.request_laws.proofs.Leads.{all_leading, leads, mark_at, nonempty_by, nonempty_long}
 
 -- what the tests of a field line that is good say
 pub record Good (l : Text) (ended : Bool) (n g v colon : ℕ) : Type 0 where
@@ -61,10 +61,9 @@ field_read at l colon e =
     let inside : n < length l = k.inside in
     let name-long : length (take n l) ≡ n = length-take-le n l (omega arith) in
     let front : drop n l ≡ 58 ∷ d = drop_more l n 0 inside ∙ ap (λ c. c ∷ d) (mark_at 58 l inside) in
-    let named : T (all name_byte (take n l)) = rw (take-take n g l k.name) at (all_take name_byte n (take g l) (all_leading name_byte l)) in
     subst (λ m. FieldSpelled l (field_of (sent_at at m l))) (sym k.is) (record {
       behind = d;
-      named = (nonempty_by (take n l) (omega (arith, k.some)), omega (arith, k.few), named);
+      named = (nonempty_by (take n l) (omega (arith, k.some)), omega (arith, k.few), (leads name_byte l n k.name).0);
       bytes = all_by value_byte d (simp length-drop (omega (arith, k.value)));
       trims = (trims d (trimmed d)).0 refl;
       text = sym (take-append-drop n l) ∙ ap (λ u. take n l ++ u) front;

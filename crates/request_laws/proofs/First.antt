@@ -26,6 +26,12 @@ pub record Good (l : Text) (ended : Bool) (m t g : ℕ) (f : First) : Type 0 whe
   pub short : length (drop (m + 1 + t + 1) l) ≤ 8
   pub whole : ended ≡ true
 
+-- a byte that is the one wanted
+pub is_byte : (l : Text) (i c : ℕ) → leb (length l) i || not (eqb (get_or l i 0) c) ≡ false → (i < length l) × (get_or l i 0 ≡ c)
+is_byte l i c b =
+    let k = or_parts (leb (length l) i) (not (eqb (get_or l i 0) c)) b in
+    (leb-false (length l) i k.0, eqb-true (get_or l i 0) c (not-false (eqb (get_or l i 0) c) k.1))
+
 pub good : (l : Text) (ended : Bool) (m t g : ℕ) → IfOk (first_at l ended m t g) (Good l ended m t g)
 good l ended m t g =
     let P : _ → Type 0 = λ r. IfOk r (Good l ended m t g) in
@@ -36,16 +42,14 @@ good l ended m t g =
     cond_both (ltb g 8 || ltb 8 (length (drop (m + 1 + t + 1) l)) || not ended) _ _ P (λ _. tt) (λ e.
     let a' = or_parts (eqb m 0) (ltb 16 m) a in
     let no = eqb-false m 0 a'.0 in
-    let b' = or_parts (leb (length l) m) (not (eqb (get_or l m 0) 32)) b in
-    let c' = or_parts (leb (length l) (m + 1)) (not (eqb (get_or l (m + 1) 0) 47)) c in
     let e' = or_parts (ltb g 8 || ltb 8 (length (drop (m + 1 + t + 1) l))) (not ended) e in
     let e'' = or_parts (ltb g 8) (ltb 8 (length (drop (m + 1 + t + 1) l))) e'.0 in
     record {
       is = refl;
       some = omega (arith, no);
       few = ltb-false 16 m a'.1;
-      space = eqb-true (get_or l m 0) 32 (not-false (eqb (get_or l m 0) 32) b'.1);
-      slash = eqb-true (get_or l (m + 1) 0) 47 (not-false (eqb (get_or l (m + 1) 0) 47) c'.1);
+      space = (is_byte l m 32 b).1;
+      slash = (is_byte l (m + 1) 47 c).1;
       long = leb-false (length l) (m + 1 + t) d;
       agrees = ltb-false g 8 e''.0;
       short = ltb-false 8 (length (drop (m + 1 + t + 1) l)) e''.1;

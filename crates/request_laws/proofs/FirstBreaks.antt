@@ -3,11 +3,11 @@ use Rattle.std.proofs.Common.{◌≡◌, ℕ, zero, suc, ◌+◌, ◌-◌, ◌<�
 use Rattle.std.specs.List.{prefix_len}
 use Rattle.std.proofs.lemmas.Result.{IfOk-at_ok, MatchResult-at_err}
 use Rattle.std.proofs.lemmas.List.Sums.{prefix_len-le-length}
-use Rattle.std.proofs.lemmas.Bool.{cond_both, or_parts, or_cases, cases_Bool, eqb-true, eqb-false, leb-true, leb-false, ltb-true, ltb-false, le-leb, not-true, not-false}
-use Rattle.std.proofs.lemmas.List.{length-append, length-drop, length-take-le, take_more, take-take, take-append-drop, drop-drop, get_or-drop, get_or-take}
+use Rattle.std.proofs.lemmas.Bool.{cond_both, or_parts, or_cases, cases_Bool, eqb-true, eqb-false, leb-true, leb-false, ltb-true, ltb-false, le-leb, not-true}
+use Rattle.std.proofs.lemmas.List.{length-append, length-drop, length-take-le, take_more, take-append-drop, drop-drop, get_or-drop, get_or-take}
 use Rattle.text.specs.Bytes.{Text, all, upper, nonempty}
 use Rattle.text.specs.Marks.{before}
-use Rattle.text.proofs.Passing.{and_i, all_take}
+use Rattle.text.proofs.Passing.{and_i}
 use Rattle.message.specs.Faults.{flaw}
 use Rattle.message.specs.declared.fault.Fault.TheVariants.{FirstLine}
 use Rattle.message.specs.declared.fault.Flaw.{Flaw}
@@ -16,8 +16,8 @@ use Rattle.request.specs.Canonical.{canonical_method, begins_with_slash, first_l
 use Rattle.request.specs.First.{agree, not_first, first_at, check_first}
 use Rattle.request.specs.declared.first.First.{First}
 use Rattle.request_laws.specs.Faults.{GoodFirst}
-use Rattle.request_laws.proofs.Leads.{all_leading, mark_at, nonempty_by}
-use Rattle.request_laws.proofs.First.{Good, good, slash_first, some_target, first_read, first_spelled, first_stray}
+use Rattle.request_laws.proofs.Leads.{all_leading, leads, mark_at, nonempty_by}
+use Rattle.request_laws.proofs.First.{Good, good, is_byte, slash_first, some_target, first_read, first_spelled, first_stray}
 use Rattle.request_laws.proofs.Breaking.{Stops, breaks_by, one_place, no_more, get_or_front, drop_front, leading_front, leading_least, take_mark}
 
 -- texts that agree so far, and what follows
@@ -59,10 +59,9 @@ facts s g =
 
 method_good : (l : Text) (j : ℕ) → 0 < j → j ≤ 16 → j ≤ prefix_len upper l → T (canonical_method (take j l))
 method_good l j some few h =
-    let long : length (take j l) ≡ j = length-take-le j l (omega (arith, prefix_len-le-length upper l)) in
-    let named : T (all upper (take j l)) = rw (take-take j (prefix_len upper l) l h) at (all_take upper j (take (prefix_len upper l) l) (all_leading upper l)) in
-    let short : leb (length (take j l)) 16 ≡ true = le-leb (length (take j l)) 16 (omega arith) in
-    and_i _ _ (and_i _ _ (nonempty_by (take j l) (omega arith)) (rw short tt)) named
+    let k = leads upper l j h in
+    let short : leb (length (take j l)) 16 ≡ true = le-leb (length (take j l)) 16 (omega (arith, k.1)) in
+    and_i _ _ (and_i _ _ (nonempty_by (take j l) (omega (arith, k.1))) (rw short tt)) k.0
 
 -- after letters: a space, a slash, a space, the version
 after_letters : (l : Text) (j : ℕ) → 0 < j → j ≤ 16 → j ≤ prefix_len upper l → GoodFirst (take j l ++ (32 ∷ 47 ∷ 32 ∷ version))
@@ -183,11 +182,6 @@ not_byte : (l : Text) (i c : ℕ) → leb (length l) i || not (eqb (get_or l i 0
 not_byte l i c b h e =
     ⊎_elim (λ z. let k = leb-true (length l) i z in omega arith) (λ z. eqb-false (get_or l i 0) c (not-true (eqb (get_or l i 0) c) z) e) (or_cases (leb (length l) i) (not (eqb (get_or l i 0) c)) b)
 
-is_byte : (l : Text) (i c : ℕ) → leb (length l) i || not (eqb (get_or l i 0) c) ≡ false → (i < length l) × (get_or l i 0 ≡ c)
-is_byte l i c b =
-    let k = or_parts (leb (length l) i) (not (eqb (get_or l i 0) c)) b in
-    (leb-false (length l) i k.0, eqb-true (get_or l i 0) c (not-false (eqb (get_or l i 0) c) k.1))
-
 abbrev Stopped : Text → Flaw → Type 0
 Stopped l v = (p : ℕ) × (v ≡ flaw FirstLine p) × Stops GoodFirst l p
 
@@ -255,7 +249,7 @@ stops l ended m t g ism ist isg =
     )) (λ f. tt)))))
 
 not_good : (l : Text) (ended : Bool) (v : Flaw) → check_first l ended ≡ Err v → GoodFirst l → ended ≡ false
-not_good l true v e g = let k = (good_read l g).1 in let z : ◌≡◌ {A = ℕ} 0 1 = cc in absurd (omega arith)
+not_good l true v e g = let k = (good_read l g).1 in cc
 not_good l false v e g = refl
 
 -- where a first line is refused it breaks
@@ -272,7 +266,7 @@ good_whole l true f e = let s = first_read l f e in ((_, _, s.parts, s.text), re
 good_whole l false f e = absurd (first_stray l f e)
 
 refused : (l : Text) (ended : Bool) (p : ℕ) (r : Result First Flaw) → check_first l ended ≡ r → Breaks GoodFirst l ended p → r ≡ not_first p
-refused l ended p (Ok f) e b = let g = good_whole l ended f e in let f = b.bad g.0 in let z : ◌≡◌ {A = ℕ} 0 1 = cc in absurd (omega arith)
+refused l ended p (Ok f) e b = let g = good_whole l ended f e in let f = b.bad g.0 in cc
 refused l ended p (Err v) e b = let k = first_breaks l ended v e in ap Err (k.1 ∙ ap (flaw FirstLine) (one_place GoodFirst l ended ended k.0 p k.2 b))
 
 -- where it breaks it is refused

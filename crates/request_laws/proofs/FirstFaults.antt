@@ -1,6 +1,6 @@
 -- The fault that is found is the first in the stated order.
 use Rattle.std.proofs.Common.{◌≡◌, ℕ, ◌+◌, ◌<◌, ◌≤◌, leb, ◌⊎◌, List, [], ◌++◌, length, take, drop, Some, None, Ok, Err, Option, Result, sym, refl, ap, ◌∙◌, subst, inl, inr, arith}
-use Rattle.std.proofs.lemmas.List.{length-map, length-take, drop_at, take-append-drop}
+use Rattle.std.proofs.lemmas.List.{length-map, length-take, drop_at}
 use Rattle.std.proofs.lemmas.Bool.{cond_both, cond-false, lt-leb, leb-false}
 use Rattle.text.specs.Bytes.{Text}
 use Rattle.message.specs.Chunked.{Run, run, most_bytes, fresh}
@@ -13,7 +13,7 @@ use Rattle.message.specs.declared.chunked.Outcome.TheVariants.{More, Whole, Wron
 use Rattle.message.specs.declared.fault.Fault.TheVariants.{TooLong}
 use Rattle.message.specs.declared.fault.Flaw.{Flaw}
 use Rattle.message.specs.declared.framing.Size.TheVariants.{Chunked}
-use Rattle.message_laws.proofs.Refused.{refused}
+use Rattle.message_laws.proofs.Refused.{refused as chunks_refused}
 use Rattle.request.specs.Canonical.{Req, head_limit, field_limit}
 use Rattle.request.specs.Found.{fault, limited}
 use Rattle.request.specs.Heads.{window, judged}
@@ -23,25 +23,28 @@ use Rattle.request.specs.declared.head.Head.{Head}
 use Rattle.request.specs.declared.head.Due.{Due}
 use Rattle.request.specs.declared.head.Due.TheVariants.{Length, Chunks}
 use Rattle.request.specs.declared.head.Judged.{Judged}
-use Rattle.request_laws.specs.FaultLaws.{HeadsRefused, FaultIsFirst}
+use Rattle.request_laws.specs.FaultLaws.{FaultIsFirst}
 use Rattle.request_laws.specs.Faults.{LineFault, HeadFault, AsFields, AllCame, FirstFault, in_lines, in_head, in_chunks, in_target, in_canonical}
 use Rattle.request_laws.specs.Laws.{finding_of}
-use Rattle.request_laws.specs.Lines.{LinesSpelled, Unframing, SizeSpelled}
+use Rattle.request_laws.specs.Lines.{Unframing, SizeSpelled}
 use Rattle.request_laws.specs.Outcome.{whole, on_target, on_run, on_due, on_head, outcome}
 use Rattle.request_laws.proofs.BodyRead.{body_read, body_spelled}
 use Rattle.request_laws.proofs.Dues as dues
 use Rattle.request_laws.proofs.Dues.{DueAs}
-use Rattle.request_laws.proofs.PlacedHead.{Placed, head_placed, placed_good, lines_spelled, good_passed, only_sent, only_field}
+use Rattle.request_laws.proofs.LineFaults.{lines_spelled}
+use Rattle.request_laws.proofs.PlacedHead.{Placed, head_placed, placed_good, Passed, good_passed}
+use Rattle.request_laws.proofs.Refused.{refused}
 use Rattle.request_laws.proofs.Requests.{meant, fields_judged, target_judged}
-use Rattle.request_laws.proofs.TargetFaults.{fault_found, targets_refused}
-use Rattle.request_laws.proofs.Targets.{target_read, target_checks}
-use Rattle.request_laws.proofs.WholeHead.{headed, headed_on, head_of}
+use Rattle.request_laws.proofs.SentAmong.{only_sent, only_field}
+use Rattle.request_laws.proofs.TargetFaults.{fault_found, target_read, targets_refused}
+use Rattle.request_laws.proofs.Targets.{target_checks}
+use Rattle.request_laws.proofs.WholeHead.{headed, headed_all, head_of}
 
 -- WHAT IS FOUND IS THE FIRST
 
 -- a fault behind a head that is let pass is one of a whole request, or of its chunks
 run_fault : (head : Head) (s : Text) (r : Run) (o : Ran) (v : Flaw) → finding_of (on_run head s r o) ≡ fault v → ((n : ℕ) × (on_run head s r o ≡ whole (fault v) n)) ⊎ (o ≡ Wrong v)
-run_fault head s r More v e = let z : ◌≡◌ {A = ℕ} 0 1 = cc in absurd (omega arith)
+run_fault head s r More v e = cc
 run_fault head s r (Wrong w) v e = inr (cc)
 run_fault head s r Whole v e = inl (head.len + r.taken, ap (λ f. whole f (head.len + r.taken)) e)
 
@@ -50,7 +53,7 @@ due_fault : (head : Head) (s : Text) (due : Due) (v : Flaw) → finding_of (on_d
 due_fault head s (Length n) v =
     cond_both (leb (head.len + n) (length s)) _ _ (λ o. finding_of o ≡ fault v → ((n : ℕ) × (o ≡ whole (fault v) n)) ⊎ ((c : Chunk) × (Length n ≡ Chunks c) × ((run c (drop head.len s)).outcome ≡ Wrong v)))
     (λ _ e. inl (head.len + n, ap (λ f. whole f (head.len + n)) e))
-    (λ _ e. let z : ◌≡◌ {A = ℕ} 0 1 = cc in absurd (omega arith))
+    (λ _ e. cc)
 due_fault head s (Chunks c) v = λ e.
     let r = run c (drop head.len s) in
     elim (run_fault head s r r.outcome v e) [ inl w ↦ inl w | inr w ↦ inr (c, refl, w) ]
@@ -59,7 +62,7 @@ due_fault head s (Chunks c) v = λ e.
 limited_fault : (k len : ℕ) (q : Req) (v : Flaw) → limited k len q ≡ fault v → (head_limit < head_length q) × (flaw TooLong len ≡ v)
 limited_fault k len q v =
     cond_both (leb (head_length q) head_limit) _ _ (λ f. f ≡ fault v → (head_limit < head_length q) × (flaw TooLong len ≡ v))
-    (λ _ e. let z : ◌≡◌ {A = ℕ} 0 1 = cc in absurd (omega arith))
+    (λ _ e. cc)
     (λ h e. (leb-false (head_length q) head_limit h, cc))
 
 module _ (names : List Text) (s : Text) (v : Flaw) (j : Judged) (a : Placed names (take window s) j) where
@@ -79,7 +82,7 @@ module _ (names : List Text) (s : Text) (v : Flaw) (j : Judged) (a : Placed name
   tail = a.rest ++ drop window s
 
   joined : s ≡ h ++ tail
-  joined = sym (take-append-drop window s) ∙ ap (λ u. u ++ drop window s) a.text ∙ headed_on m t a.lines a.rest (drop window s) ∙ sym (headed_on m t a.lines [] tail)
+  joined = headed_all s m t a.lines a.rest a.text
 
   behind : drop (length h) s ≡ tail
   behind = ap (drop (length h)) joined ∙ drop_at h tail (length h) refl
@@ -105,12 +108,12 @@ module _ (names : List Text) (s : Text) (v : Flaw) (j : Judged) (a : Placed name
 
   -- in the chunks
   chunks_fault : (c : Chunk) → DueAs m (AsFields a.fields) (length h) a.due → a.due ≡ Chunks c → (run c (drop (length h) s)).outcome ≡ Wrong v → FirstFault names s v
-  chunks_fault c (dues.none b u d) is w = let z : ◌≡◌ {A = ℕ} 0 1 = cc in absurd (omega arith)
-  chunks_fault c (dues.sized f n b o x y l d) is w = let z : ◌≡◌ {A = ℕ} 0 1 = cc in absurd (omega arith)
+  chunks_fault c (dues.none b u d) is w = cc
+  chunks_fault c (dues.sized f n b o x y l d) is w = cc
   chunks_fault c (dues.chunked f b o x y d) is w =
       let same : c ≡ fresh most_bytes (length h) = cc in
       let g = only_sent Unframing a.fields f o in
-      in_chunks a.server g.0 (placed_good names s j a) b g.1 (subst (λ f. SizeSpelled f Chunked) (sym g.2) (x, y)) ((refused most_bytes (length h) (drop (length h) s) v).0 (ap (λ i. (run i (drop (length h) s)).outcome) (sym same) ∙ w))
+      in_chunks a.server g.0 (placed_good names s j a) b g.1 (subst (λ f. SizeSpelled f Chunked) (sym g.2) (x, y)) ((chunks_refused most_bytes (length h) (drop (length h) s) v).0 (ap (λ i. (run i (drop (length h) s)).outcome) (sym same) ∙ w))
 
   behind_fault : finding_of (on_due j.head s j.due) ≡ fault v → FirstFault names s v
   behind_fault e =
@@ -128,20 +131,16 @@ head_fault : (names : List Text) (s : Text) (v : Flaw) → LineFault (take windo
 head_fault names s v (inl f) = in_lines f
 head_fault names s v (inr f) = in_head f
 
-fault_first : HeadsRefused → (names : List Text) (s : Text) (v : Flaw) (r : Result (Option Judged) Flaw) → judged names (take window s) ≡ r → finding_of (on_head s r) ≡ fault v → FirstFault names s v
-fault_first heads names s v (Err w) g e = let is : w ≡ v = cc in head_fault names s v ((heads names (take window s) v (in_window s)).0 (g ∙ ap Err is))
-fault_first heads names s v (Ok None) g e = let z : ◌≡◌ {A = ℕ} 0 1 = cc in absurd (omega arith)
-fault_first heads names s v (Ok (Some j)) g e = behind_fault names s v j (head_placed names (take window s) j g) e
+fault_first : (names : List Text) (s : Text) (v : Flaw) (r : Result (Option Judged) Flaw) → judged names (take window s) ≡ r → finding_of (on_head s r) ≡ fault v → FirstFault names s v
+fault_first names s v (Err w) g e = let is : w ≡ v = cc in head_fault names s v ((refused names (take window s) v (in_window s)).0 (g ∙ ap Err is))
+fault_first names s v (Ok None) g e = cc
+fault_first names s v (Ok (Some j)) g e = behind_fault names s v j (head_placed names (take window s) j g) e
 
 -- THE FIRST IS WHAT IS FOUND
 
 -- all of a request has come, and so it is judged
-record Came (names : List Text) (s m t : Text) (fs : List Sent) (len k : ℕ) (body : Text) : Type 0 where
-  lines : Text
-  good : LinesSpelled lines (AsFields fs)
-  few : length (AsFields fs) ≤ field_limit
-  long : length (headed m t lines []) ≡ len
-  found : finding_of (outcome names s) ≡ on_target (head_of m t lines k) (headed m t lines []) body (check_target t)
+abbrev Came : List Text → Text → Text → Text → List Sent → ℕ → ℕ → Text → Type 0
+Came names s m t fs len k body = (p : Passed names s m t fs len k) × (finding_of (outcome names s) ≡ on_target (head_of m t p.lines k) (headed m t p.lines []) body (check_target t))
 
 came_found : (names : List Text) (s m t : Text) (fs : List Sent) (len k : ℕ) (body : Text) → AllCame names s m t fs len k body → Came names s m t fs len k body
 came_found names s m t fs len k body c =
@@ -151,36 +150,30 @@ came_found names s m t fs len k body c =
     let b = body_spelled m (AsFields fs) head h c.after c.rest body refl c.spelled c.short in
     let all : s ≡ h ++ (c.after ++ c.rest) = p.text ∙ ap (λ u. h ++ u) (sym p.behind ∙ c.text) in
     let passes = p.passes b.0 (subst (λ n. DueAs m (AsFields fs) n b.0) p.long b.1) in
-    record {
-      lines = p.lines;
-      good = p.good;
-      few = p.few;
-      long = p.long;
-      found = ap (λ r. finding_of (on_head s r)) passes ∙ ap (λ u. finding_of (on_due head u b.0)) all ∙ ap finding_of b.2 ∙ target_judged m t p.lines k body;
-    }
+    (p, ap (λ r. finding_of (on_head s r)) passes ∙ ap (λ u. finding_of (on_due head u b.0)) all ∙ ap finding_of b.2 ∙ target_judged m t p.lines k body)
 
-first_found : HeadsRefused → (names : List Text) (s : Text) (v : Flaw) → FirstFault names s v → finding_of (outcome names s) ≡ fault v
-first_found heads names s v (in_lines f) = ap (λ r. finding_of (on_head s r)) ((heads names (take window s) v (in_window s)).1 (inl f))
-first_found heads names s v (in_head f) = ap (λ r. finding_of (on_head s r)) ((heads names (take window s) v (in_window s)).1 (inr f))
-first_found heads names s v (in_chunks {m} {t} {fs} {len} k f g b o z c) =
+first_found : (names : List Text) (s : Text) (v : Flaw) → FirstFault names s v → finding_of (outcome names s) ≡ fault v
+first_found names s v (in_lines f) = ap (λ r. finding_of (on_head s r)) ((refused names (take window s) v (in_window s)).1 (inl f))
+first_found names s v (in_head f) = ap (λ r. finding_of (on_head s r)) ((refused names (take window s) v (in_window s)).1 (inr f))
+first_found names s v (in_chunks {m} {t} {fs} {len} k f g b o z c) =
     let p = good_passed names s m t fs len k g in
     let head = head_of m t p.lines k in
     let start = fresh most_bytes len in
     ap (λ r. finding_of (on_head s r)) (p.passes (Chunks start) (dues.chunked (field_of f) b (only_field Unframing fs f o) z.0 z.1 refl))
     ∙ ap (λ n. finding_of (on_run head s (run start (drop n s)) (run start (drop n s)).outcome)) p.long
-    ∙ ap (λ x. finding_of (on_run head s (run start (drop len s)) x)) ((refused most_bytes len (drop len s) v).1 c)
-first_found heads names s v (in_target {m} {t} {body} {fs} {len} {v = w} k came f) =
+    ∙ ap (λ x. finding_of (on_run head s (run start (drop len s)) x)) ((chunks_refused most_bytes len (drop len s) v).1 c)
+first_found names s v (in_target {m} {t} {body} {fs} {len} {v = w} k came f) =
     let c = came_found names s m t fs len k body came in
-    c.found ∙ ap (on_target (head_of m t c.lines k) (headed m t c.lines []) body) (fault_found t w f)
-first_found heads names s v (in_canonical {m} {t} {body} {fs} {len} k p came f long) =
+    c.1 ∙ ap (on_target (head_of m t c.0.lines k) (headed m t c.0.lines []) body) (fault_found t w f)
+first_found names s v (in_canonical {m} {t} {body} {fs} {len} k p came f long) =
     let c = came_found names s m t fs len k body came in
-    let h = headed m t c.lines [] in
+    let h = headed m t c.0.lines [] in
     let q = meant m t (AsFields fs) body in
     let checks = target_checks t p f in
     let over : head_limit < head_length q = subst (λ u. head_limit < head_length (record { method = m; target = u; fields = kept_of (AsFields fs); body = body })) (sym checks.1) long in
-    c.found ∙ ap (on_target (head_of m t c.lines k) h body) checks.0 ∙ fields_judged m t c.lines k (AsFields fs) body c.good c.few
-    ∙ cond-false (leb (head_length q) head_limit) _ _ (lt-leb (head_length q) head_limit over) ∙ ap (λ n. fault (flaw TooLong n)) c.long
+    c.1 ∙ ap (on_target (head_of m t c.0.lines k) h body) checks.0 ∙ fields_judged m t c.0.lines k (AsFields fs) body c.0.good c.0.few
+    ∙ cond-false (leb (head_length q) head_limit) _ _ (lt-leb (head_length q) head_limit over) ∙ ap (λ n. fault (flaw TooLong n)) c.0.long
 
--- the law, from the one of heads
-pub fault_is_first : HeadsRefused → FaultIsFirst
-fault_is_first heads names s v = (fault_first heads names s v (judged names (take window s)) refl, first_found heads names s v)
+-- the law
+pub fault_is_first : FaultIsFirst
+fault_is_first names s v = (fault_first names s v (judged names (take window s)) refl, first_found names s v)

@@ -1,5 +1,5 @@
 -- Fields as lines may hold them, and what canonical form makes of them.
-use Rattle.std.proofs.Common.{◌≡◌, ℕ, ◌≤◌, Bool, true, false, not, ◌&&◌, ◌||◌, T, eqb, leb, List, [], ◌∷◌, ◌++◌, length, sym, refl, ap, append-nil, arith, le→leb, leb→le}
+use Rattle.std.proofs.Common.{◌≡◌, ℕ, ◌≤◌, Bool, true, false, not, ◌&&◌, ◌||◌, T, eqb, List, [], ◌∷◌, ◌++◌, length, sym, refl, ap, append-nil, arith, le→leb, leb→le}
 use Rattle.std.specs.List.{AllByRecursion}
 use Rattle.std.proofs.lemmas.Bool.Decides.{nat_tests}
 use Rattle.text.specs.Bytes.{Text, lower, lowered, digit, name_byte, visible, blank, value_byte, all, among, nonempty}
@@ -11,8 +11,10 @@ use Rattle.text.proofs.Passing.{is_true, is_false, and_i, and_l, and_r, so, all_
 use Rattle.text_laws.specs.Laws.{blank_first, blank_last}
 use Rattle.message.specs.Fields.{Field, dropped, name_limit, lower_name_byte, value_tail, canonical_value, canonical_field, canonical_fields, line_of, field_lines, lines_of}
 use Rattle.message.specs.Hops.{canonical_of}
+use Rattle.message.proofs.Canonical.{name_byte_so, tail_bytes, visible_value}
 use Rattle.request.specs.Canonical.{length_field}
 use Rattle.request_laws.specs.Lines.{FieldSpelled, LinesSpelled, none, line}
+use Rattle.request_laws.proofs.Leads.{all_front, all_behind}
 
 -- a field as a line may hold it
 pub record Fit (f : Field) : Type 0 where
@@ -21,17 +23,6 @@ pub record Fit (f : Field) : Type 0 where
   pub name : T (all name_byte f.name)
   pub value : T (all value_byte f.value)
   pub bare : T (not (blank_first f.value)) × T (not (blank_last f.value))
-
--- parts of a text whose bytes all pass
-all_front : (p : ℕ → Bool) (s t : Text) → T (all p (s ++ t)) → T (all p s)
-unfolding all
-all_front p [] t h = tt
-all_front p (c ∷ s) t h = and_i (p c) (all p s) (and_l (p c) (all p (s ++ t)) h) (all_front p s t (and_r (p c) (all p (s ++ t)) h))
-
-all_behind : (p : ℕ → Bool) (s t : Text) → T (all p (s ++ t)) → T (all p t)
-unfolding all
-all_behind p [] t h = h
-all_behind p (c ∷ s) t h = all_behind p s t (and_r (p c) (all p (s ++ t)) h)
 
 -- fields of spelled lines are such fields
 field_fit : (l : Text) (f : Field) → FieldSpelled l f → Fit f
@@ -128,22 +119,14 @@ value_canonical (c ∷ t) h first last =
 pub canonical_of_so : (f : Field) → Fit f → among (lowered f.name) dropped ≡ false → T (canonical_field (canonical_of f))
 canonical_of_so f h e =
     let n = lowered f.name in
-    let short : length n ≤ name_limit = rw (length_lowered f.name) h.short in
-    and_i (nonempty n && leb (length n) name_limit && all lower_name_byte n && not (among n dropped)) (canonical_value (squeezed f.value))
-    (and_i (nonempty n && leb (length n) name_limit && all lower_name_byte n) (not (among n dropped))
-    (and_i (nonempty n && leb (length n) name_limit) (all lower_name_byte n) (and_i (nonempty n) (leb (length n) name_limit) (some_lowered f.name h.some) (le→leb (length n) name_limit short)) (names_lowered f.name h.name))
-    (rw e tt)) (value_canonical f.value h.value h.bare.0 h.bare.1)
+    let short = le→leb (length n) name_limit (rw (length_lowered f.name) h.short) in
+    let some = some_lowered f.name h.some in
+    let name = names_lowered f.name h.name in
+    let kept : T (not (among n dropped)) = rw e tt in
+    let value = value_canonical f.value h.value h.bare.0 h.bare.1 in
+    search and_i depth 6
 
 -- a canonical value is bare at its ends
-tail_bytes : (t : Text) → T (value_tail t) → T (all value_byte t)
-unfolding all value_tail
-tail_bytes [] h = tt
-tail_bytes (c ∷ []) h = and_i (value_byte c) true (so (visible c) (value_byte c) (λ e. grind (arith, nat_tests)) h) tt
-tail_bytes (c ∷ d ∷ t) h =
-    let first : T (visible c || (eqb c 32 && visible d)) = and_l (visible c || (eqb c 32 && visible d)) (value_tail (d ∷ t)) h in
-    and_i (value_byte c) (all value_byte (d ∷ t)) (so (visible c || (eqb c 32 && visible d)) (value_byte c) (λ e. grind (arith, nat_tests)) first)
-    (tail_bytes (d ∷ t) (and_r (visible c || (eqb c 32 && visible d)) (value_tail (d ∷ t)) h))
-
 visible_bare : (c : ℕ) → T (visible c) → T (not (blank c))
 visible_bare c h = so (visible c) (not (blank c)) (λ e. grind (arith, nat_tests)) h
 
@@ -161,9 +144,6 @@ value_fit (c ∷ t) h =
     (tail_bytes (c ∷ t) tail, unfold blank_first in visible_bare c (and_l (visible c) (value_tail (c ∷ t)) h), tail_bare (c ∷ t) tail)
 
 -- canonical fields, and the length, are fields as a line may hold them
-name_byte_so : (c : ℕ) → T (lower_name_byte c) → T (name_byte c)
-name_byte_so c h = so (lower_name_byte c) (name_byte c) (λ e. grind (arith, nat_tests)) h
-
 canonical_fit : (f : Field) → T (canonical_field f) → Fit f
 canonical_fit f h =
     let v = value_fit f.value (search (and_l, and_r) depth 8) in
@@ -175,20 +155,14 @@ canonical_fit f h =
       bare = (v.1, v.2);
     }
 
-pub all_fit : (fs : List Field) → T (canonical_fields fs) → AllByRecursion Fit fs
+-- what holds of a canonical field holds of each of canonical fields
+pub each_canonical : (P : Field → Type 0) → ((f : Field) → T (canonical_field f) → P f) → (fs : List Field) → T (canonical_fields fs) → AllByRecursion P fs
 unfolding canonical_fields
-all_fit [] h = tt
-all_fit (f ∷ fs) h = (canonical_fit f (and_l (canonical_field f) (canonical_fields fs) h), all_fit fs (and_r (canonical_field f) (canonical_fields fs) h))
+each_canonical P go [] h = tt
+each_canonical P go (f ∷ fs) h = (go f (and_l (canonical_field f) (canonical_fields fs) h), each_canonical P go fs (and_r (canonical_field f) (canonical_fields fs) h))
 
-visible_tail : (t : Text) → T (all visible t) → T (value_tail t)
-unfolding all value_tail
-visible_tail [] h = tt
-visible_tail (c ∷ t) h = after_visible c t (and_l (visible c) (all visible t) h) (visible_tail t (and_r (visible c) (all visible t) h))
-
-visible_value : (t : Text) → T (all visible t) → T (canonical_value t)
-unfolding all canonical_value
-visible_value [] h = tt
-visible_value (c ∷ t) h = and_i (visible c) (value_tail (c ∷ t)) (and_l (visible c) (all visible t) h) (visible_tail (c ∷ t) h)
+pub all_fit : (fs : List Field) → T (canonical_fields fs) → AllByRecursion Fit fs
+all_fit fs h = each_canonical Fit canonical_fit fs h
 
 pub length_fit : (body : Text) → Fit (length_field body)
 unfolding all nonempty

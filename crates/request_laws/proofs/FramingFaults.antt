@@ -1,14 +1,14 @@
--- What is wrong with what the fields of a head say of the body is what the grammar says.
-use Rattle.std.proofs.Common.{◌≡◌, ℕ, Bool, true, false, ◌||◌, ltb, List, [], ◌∷◌, ◌++◌, IfErr, Some, None, Ok, Err, Option, Result, sym, refl, ap, ◌∙◌, subst, ⊎_elim, arith}
+-- What the fields of a head say of the body, or what is wrong with it, is what the grammar says.
+use Rattle.std.proofs.Common.{◌≡◌, ℕ, Bool, true, false, ◌||◌, ltb, List, [], ◌∷◌, ◌++◌, IfErr, Some, None, Ok, Err, Option, Result, sym, refl, ap, ◌∙◌, subst, ⊎_elim}
 use Rattle.std.specs.Result as results
 use Rattle.std.specs.List.{AllByRecursion}
-use Rattle.std.proofs.lemmas.Result.{MatchResult-weaker}
+use Rattle.std.proofs.lemmas.Result.{MatchResult-weaker, MatchResult-at_ok}
 use Rattle.std.proofs.lemmas.Bool.{cond_both, cases_Bool, ltb-false, le-ltb}
 use Rattle.text.specs.Bytes.{Text, same_no_case}
 use Rattle.text.proofs.Passing.{is_true, is_false}
 use Rattle.message.specs.Faults.{flaw, onward}
-use Rattle.message.specs.Fields.{content_length, transfer_encoding}
-use Rattle.message.specs.Framing.{says_of, said_in, say_on, framed}
+use Rattle.message.specs.Fields.{Field, content_length, transfer_encoding}
+use Rattle.message.specs.Framing.{Says, says_of, said_in, say_on, framed}
 use Rattle.message.specs.Hops.{field_of}
 use Rattle.message.specs.Sent.{Sent}
 use Rattle.message.specs.declared.fault.Fault.TheVariants.{Framing}
@@ -16,18 +16,16 @@ use Rattle.message.specs.declared.fault.Flaw.{Flaw}
 use Rattle.message.specs.declared.framing.Size.{Size}
 use Rattle.message.specs.declared.framing.Size.TheVariants.{Length, Chunked}
 use Rattle.message.specs.declared.framing.Said.{Said as Saying}
-use Rattle.message.specs.declared.framing.Says.{Says}
-use Rattle.message.specs.declared.framing.Says.TheVariants.{Nothing, Nonsense, Body}
 use Rattle.request.specs.Canonical.{carries_body, body_limit}
 use Rattle.request.specs.Heads.{due_by, due_of}
 use Rattle.request.specs.declared.head.Due.{Due}
 use Rattle.request_laws.specs.Faults.{AsFields, FirstOther, OnlySent, IsFraming, FramingFault, nonsense, second, Said, nothing, once, BodyFault, unsaid, unwanted, too_long}
-use Rattle.request_laws.specs.Lines.{Unframing, SizeSpelled}
+use Rattle.request_laws.specs.Lines.{Unframing, SizeSpelled, Only}
 use Rattle.request_laws.proofs.Framing.{Means, says_means, says_nothing, says_size, framed_past, framed_none}
-use Rattle.request_laws.proofs.SentAmong.{other_here, other_later, twice_here, twice_later, sent_here, sent_later}
+use Rattle.request_laws.proofs.SentAmong.{other_here, other_later, twice_here, twice_later, sent_here, sent_later, only_sent}
 
 -- a field that says something of the body, or would
-is_framing : (f : Sent) → (says_of f ≡ Nothing → ⊥) → IsFraming f
+is_framing : (f : Sent) → (says_of f ≡ Ok None → ⊥) → IsFraming f
 is_framing f h =
     let b = same_no_case f.name content_length || same_no_case f.name transfer_encoding in
     ⊎_elim (λ e. rw e tt) (λ e. absurd (h (says_nothing f (rw e tt)))) (cases_Bool b)
@@ -35,14 +33,12 @@ is_framing f h =
 means : (f : Sent) (x : Says) → says_of f ≡ x → Means (field_of f) x
 means f x e = subst (Means (field_of f)) e (says_means f)
 
-says_something : (f : Sent) → IsFraming f → says_of f ≡ Nothing → ⊥
+says_something : (f : Sent) → IsFraming f → says_of f ≡ Ok None → ⊥
 says_something f i e =
     let b = same_no_case f.name content_length || same_no_case f.name transfer_encoding in
     let yes = is_true b i in
-    let false-so = is_false b (means f Nothing e) in
-    let z : true ≡ false = sym yes ∙ false-so in
-    let y : ◌≡◌ {A = ℕ} 0 1 = cc in
-    omega arith
+    let false-so = is_false b (means f (Ok None) e) in
+    cc
 
 -- after a field that said something, what it means that another does, or none
 abbrev StillIn : Saying → List Sent → Option Saying → Type 0
@@ -53,11 +49,11 @@ OtherIn fs v = (f : Sent) × FirstOther Unframing fs f × IsFraming f × (v ≡ 
 
 still_more : (s : Saying) (f : Sent) (fs : List Sent) (x : Says) → says_of f ≡ x → results.MatchResult (framed (Some s) fs) (StillIn s fs) (OtherIn fs) →
     results.MatchResult (onward (say_on f (Some s) x) (λ o. framed o fs)) (StillIn s (f ∷ fs)) (OtherIn (f ∷ fs))
-still_more s f fs Nothing e h =
-    let u = means f Nothing e in
+still_more s f fs (Ok None) e h =
+    let u = means f (Ok None) e in
     MatchResult-weaker (framed (Some s) fs) h (λ o k. (k.0, (u, k.1))) (λ v k. (k.0, other_later Unframing f k.0 fs u k.1, k.2, k.3))
-still_more s f fs Nonsense e h = (f, other_here Unframing f fs, is_framing f (λ n. let z : ◌≡◌ {A = ℕ} 0 1 = cc in omega arith), refl)
-still_more s f fs (Body size) e h = (f, other_here Unframing f fs, is_framing f (λ n. let z : ◌≡◌ {A = ℕ} 0 1 = cc in omega arith), refl)
+still_more s f fs (Err n) e h = (f, other_here Unframing f fs, is_framing f (λ n. cc), refl)
+still_more s f fs (Ok (Some size)) e h = (f, other_here Unframing f fs, is_framing f (λ n. cc), refl)
 
 still : (s : Saying) (fs : List Sent) → results.MatchResult (framed (Some s) fs) (StillIn s fs) (OtherIn fs)
 unfolding framed
@@ -79,13 +75,13 @@ fault_later f fs u v (second g h size o s i) = second g h size (twice_later Unfr
 
 framed_more : (f : Sent) (fs : List Sent) (x : Says) → says_of f ≡ x → results.MatchResult (framed None fs) (SaidIn fs) (FramingFault fs) →
     results.MatchResult (onward (say_on f None x) (λ o. framed o fs)) (SaidIn (f ∷ fs)) (FramingFault (f ∷ fs))
-framed_more f fs Nothing e h = let u = means f Nothing e in MatchResult-weaker (framed None fs) h (said_later f fs u) (fault_later f fs u)
-framed_more f fs Nonsense e h =
-    nonsense f (other_here Unframing f fs) (is_framing f (λ n. let z : ◌≡◌ {A = ℕ} 0 1 = cc in omega arith))
-    (λ size s. let b = says_size f size s in let z : ◌≡◌ {A = ℕ} 0 1 = cc in omega arith)
-framed_more f fs (Body size) e h =
+framed_more f fs (Ok None) e h = let u = means f (Ok None) e in MatchResult-weaker (framed None fs) h (said_later f fs u) (fault_later f fs u)
+framed_more f fs (Err n) e h =
+    nonsense f (other_here Unframing f fs) (is_framing f (λ n. cc))
+    (λ size s. let b = says_size f size s in cc)
+framed_more f fs (Ok (Some size)) e h =
     let s = said_in f size in
-    let m = means f (Body size) e in
+    let m = means f (Ok (Some size)) e in
     MatchResult-weaker (framed (Some s) fs) (still s fs) (λ o k. rw k.0 (f, size, sent_here Unframing f fs k.1, m, refl))
     (λ v k. rw k.3 (second f k.0 size (twice_here Unframing f k.0 fs k.1) m k.2))
 
@@ -95,20 +91,23 @@ unfolding framed
 framing_wrong [] = tt
 framing_wrong (f ∷ fs) = framed_more f fs (says_of f) refl (framing_wrong fs)
 
--- a field that would say something and does not
-says_nonsense : (f : Sent) (x : Says) → says_of f ≡ x → IsFraming f → ((size : Size) → SizeSpelled (field_of f) size → ⊥) → says_of f ≡ Nonsense
-says_nonsense f Nothing e i never = absurd (says_something f i e)
-says_nonsense f Nonsense e i never = e
-says_nonsense f (Body size) e i never = absurd (never size (means f (Body size) e))
+pub framing_read : (fs : List Sent) (o : Option Saying) → framed None fs ≡ Ok o → SaidIn fs o
+framing_read fs o e = MatchResult-at_ok (SaidIn fs) (FramingFault fs) o e (framing_wrong fs)
 
-nonsense_found : (f : Sent) (fs : List Sent) → says_of f ≡ Nonsense → framed None (f ∷ fs) ≡ Err (flaw Framing f.value_at)
+-- a field that would say something and does not
+says_nonsense : (f : Sent) (x : Says) → says_of f ≡ x → IsFraming f → ((size : Size) → SizeSpelled (field_of f) size → ⊥) → says_of f ≡ Err record {}
+says_nonsense f (Ok None) e i never = absurd (says_something f i e)
+says_nonsense f (Err n) e i never = e
+says_nonsense f (Ok (Some size)) e i never = absurd (never size (means f (Ok (Some size)) e))
+
+nonsense_found : (f : Sent) (fs : List Sent) → says_of f ≡ Err record {} → framed None (f ∷ fs) ≡ Err (flaw Framing f.value_at)
 unfolding framed
 nonsense_found f fs e = rw e
 
-another : (s : Saying) (f : Sent) (fs : List Sent) (x : Says) → (x ≡ Nothing → ⊥) → onward (say_on f (Some s) x) (λ o. framed o fs) ≡ Err (flaw Framing f.at)
-another s f fs Nothing h = absurd (h refl)
-another s f fs Nonsense h = refl
-another s f fs (Body size) h = refl
+another : (s : Saying) (f : Sent) (fs : List Sent) (x : Says) → (x ≡ Ok None → ⊥) → onward (say_on f (Some s) x) (λ o. framed o fs) ≡ Err (flaw Framing f.at)
+another s f fs (Ok None) h = absurd (h refl)
+another s f fs (Err n) h = refl
+another s f fs (Ok (Some size)) h = refl
 
 second_found : (f g : Sent) (size : Size) (between behind : List Sent) → AllByRecursion Unframing (AsFields between) → SizeSpelled (field_of f) size → IsFraming g → framed None (f ∷ (between ++ (g ∷ behind))) ≡ Err (flaw Framing g.at)
 unfolding framed
@@ -134,6 +133,10 @@ one_found f size fs s h = rw (says_size f size s) (framed_none (Some (said_in f 
 
 only_found : (f : Sent) (size : Size) (fs : List Sent) → OnlySent Unframing fs f → SizeSpelled (field_of f) size → framed None fs ≡ Ok (Some (said_in f size))
 only_found f size fs o s = ap (framed None) o.joined ∙ framed_past None o.before (f ∷ o.behind) o.others.0 ∙ one_found f size o.behind s o.others.1
+
+-- where one field says how long the body is, and no other says anything, that is found
+pub framing_spelled : (fs : List Sent) (f : Field) (size : Size) → Only Unframing (AsFields fs) f → SizeSpelled f size → (said : Saying) × (framed None fs ≡ Ok (Some said)) × (said.size ≡ size)
+framing_spelled fs f size o s = let g = only_sent Unframing fs f o in (said_in g.0 size, only_found g.0 size fs g.1 (subst (λ f. SizeSpelled f size) (sym g.2) s), refl)
 
 module _ (m : Text) (fs : List Sent) (len : ℕ) where
   abbrev Wrong : Result Due Flaw → Type 0

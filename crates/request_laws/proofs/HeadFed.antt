@@ -19,8 +19,8 @@ use Rattle.request_laws.proofs.ChunksFed.{chunks_fed}
 use Rattle.request_laws.proofs.HeadPasses.{room_left}
 use Rattle.request_laws.proofs.HeadSound.{sound}
 use Rattle.request_laws.proofs.HeadStays.{head_stays}
+use Rattle.request_laws.proofs.Leads.{take_joined}
 use Rattle.request_laws.proofs.MemoryPlaced.{front_within, placed_long, placed_upto}
-use Rattle.request_laws.proofs.OutcomeStays.{take_joined}
 use Rattle.request_laws.proofs.Stands.{capacity, Due-so, Body, At, going, resting, Comes}
 
 -- a piece of a body
@@ -46,8 +46,8 @@ ends_behind names s t j unended passed =
     let first : judged names (take n s) ≡ Ok (Some j) = ap (judged names) (sym (take-append-le n s t le)) ∙ (sound names (s ++ t) j passed).alone in
     let whole = take-append-drop n s in
     let room : length (take n s ++ drop n s) ≤ window = rw whole (let short = room_left names s unended in omega arith) in
-    let same : judged names s ≡ judged names (take n s) = ap (judged names) (sym whole) ∙ head_stays names (take n s) (drop n s) room (λ e. let z : ◌≡◌ {A = ℕ} 0 1 = cc in omega arith) in
-    absurd (let z : ◌≡◌ {A = ℕ} 0 1 = cc in omega arith))
+    let same : judged names s ≡ judged names (take n s) = ap (judged names) (sym whole) ∙ head_stays names (take n s) (drop n s) room (λ e. cc) in
+    cc)
     (λ (h : length s ≤ j.head.len). h)
     (cases_lt j.head.len (length s))
 
@@ -84,7 +84,7 @@ module _ (names : List Text) (s piece : Text) (filled : ℕ) (memory : Text) (si
         size = then_size;
         final = broken w;
         is = ap (on_head (s ++ piece)) e;
-        ends = λ z. let k : ◌≡◌ {A = ℕ} 0 1 = cc in omega arith;
+        ends = λ z. cc;
         finds = refl;
         took = λ n. tt;
       }

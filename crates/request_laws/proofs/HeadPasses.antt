@@ -3,7 +3,7 @@ use Rattle.std.proofs.Common.{◌≡◌, ℕ, ◌+◌, ◌<◌, true, false, ltb
 use Rattle.std.proofs.lemmas.Bool.{cond_both, ltb-true}
 use Rattle.text.specs.Bytes.{Text}
 use Rattle.text.specs.Cuts.{LineCut, whole, short, stray, cut_line}
-use Rattle.message.specs.Faults.{flaw, onward}
+use Rattle.message.specs.Faults.{flaw}
 use Rattle.message.specs.Sent.{Sent, Found, ended, more, wrong, fields_in}
 use Rattle.message.specs.declared.fault.Fault.TheVariants.{TooLong}
 use Rattle.message.specs.declared.fault.Flaw.{Flaw}
@@ -14,6 +14,7 @@ use Rattle.request.specs.declared.first.First.{First}
 use Rattle.request.specs.declared.head.Due.{Due}
 use Rattle.request.specs.declared.head.Judged.{Judged}
 use Rattle.request_laws.proofs.First.{first_stray}
+use Rattle.request_laws.proofs.Onward.{onward_both}
 
 abbrev Head : Type 0
 Head = Result (Option Judged) Flaw
@@ -38,19 +39,18 @@ By (Ok (Some j)) P Q = P j
 By (Ok None) P Q = Q
 By (Err w) P Q = Unit {0}
 
-by_onward : {A : Type 0} (r : Result A Flaw) (go : A → Head) (P : Judged → Type 0) (Q : Type 0) → ((x : A) → r ≡ Ok x → By (go x) P Q) → By (onward r go) P Q
-by_onward (Ok x) go P Q f = f x refl
-by_onward (Err w) go P Q f = tt
-
 by_unended : (n : ℕ) (P : Judged → Type 0) → By (unended_at n) P (n < window)
 by_unended n P = cond_both (ltb n window) (Ok None) (Err (flaw TooLong window)) (λ (x : Head). By x P (n < window)) (λ e. ltb-true _ _ e) (λ _. tt)
 
 module _ (names : List Text) (w : Text) where
-  on_fields_so : (l rest : Text) (first : First) (f : Found) → cut_line w ≡ whole l rest → check_first l true ≡ Ok first → fields_in field_limit w (length l + 2) ≡ f → By (on_fields names l (length w) first f) (Passes names w) (length w < window)
+  abbrev Known : Head → Type 0
+  Known x = By x (Passes names w) (length w < window)
+
+  on_fields_so : (l rest : Text) (first : First) (f : Found) → cut_line w ≡ whole l rest → check_first l true ≡ Ok first → fields_in field_limit w (length l + 2) ≡ f → Known (on_fields names l (length w) first f)
   on_fields_so l rest first more cut good found = by_unended (length w) (Passes names w)
   on_fields_so l rest first (wrong f) cut good found = tt
   on_fields_so l rest first (ended fs end) cut good found =
-      by_onward (judged_fields names (take first.method l) fs end) (λ p. Ok (Some (judged_as first (length l + 2) end p))) (Passes names w) (length w < window) (λ p e. record {
+      onward_both Known (judged_fields names (take first.method l) fs end) (λ p. Ok (Some (judged_as first (length l + 2) end p))) (λ _ _. tt) (λ p e. record {
         line = l;
         rest = rest;
         cut = cut;
@@ -64,15 +64,15 @@ module _ (names : List Text) (w : Text) where
         is = refl;
       })
 
-  on_first_so : (c : LineCut) → cut_line w ≡ c → By (on_first names w c) (Passes names w) (length w < window)
+  on_first_so : (c : LineCut) → cut_line w ≡ c → Known (on_first names w c)
   on_first_so short cut = by_unended (length w) (Passes names w)
-  on_first_so (stray n) cut = by_onward (check_first (take n w) false) (λ first. Ok None) (Passes names w) (length w < window) (λ first e. absurd (first_stray (take n w) first e))
+  on_first_so (stray n) cut = onward_both Known (check_first (take n w) false) (λ first. Ok None) (λ _ _. tt) (λ first e. absurd (first_stray (take n w) first e))
   on_first_so (whole l rest) cut =
-      by_onward (check_first l true) (λ first. on_fields names l (length w) first (fields_in field_limit w (length l + 2))) (Passes names w) (length w < window)
+      onward_both Known (check_first l true) (λ first. on_fields names l (length w) first (fields_in field_limit w (length l + 2))) (λ _ _. tt)
       (λ first good. on_fields_so l rest first (fields_in field_limit w (length l + 2)) cut good refl)
 
   pub passes : (j : Judged) → judged names w ≡ Ok (Some j) → Passes names w j
-  passes j e = subst (λ (x : Head). By x (Passes names w) (length w < window)) e (on_first_so (cut_line w) refl)
+  passes j e = subst Known e (on_first_so (cut_line w) refl)
 
   pub room_left : judged names w ≡ Ok None → length w < window
-  room_left e = subst (λ (x : Head). By x (Passes names w) (length w < window)) e (on_first_so (cut_line w) refl)
+  room_left e = subst Known e (on_first_so (cut_line w) refl)

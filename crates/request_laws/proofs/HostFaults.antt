@@ -1,8 +1,8 @@
--- What is wrong with the `host` of a head is what the grammar says.
-use Rattle.std.proofs.Common.{◌≡◌, ℕ, ◌+◌, ◌-◌, not, T, List, [], ◌∷◌, ◌++◌, IfNone, IfErr, Some, None, Ok, Err, Option, Result, refl, ap, ◌∙◌}
+-- The server that a head asks for, or what is wrong with its `host`, is what the grammar says.
+use Rattle.std.proofs.Common.{◌≡◌, ℕ, ◌+◌, ◌-◌, not, T, List, [], ◌∷◌, ◌++◌, length, Some, None, Ok, Err, Option, MatchOption, Result, refl, ap, ◌∙◌, arith}
 use Rattle.std.specs.Result as results
 use Rattle.std.specs.List.{AllByRecursion}
-use Rattle.std.proofs.lemmas.Result.{MatchResult-weaker}
+use Rattle.std.proofs.lemmas.Result.{MatchResult-weaker, MatchResult-at_ok, MatchResult-at_err}
 use Rattle.std.proofs.lemmas.Bool.{cond_both}
 use Rattle.text.specs.Bytes.{Text, same_no_case}
 use Rattle.text.proofs.Passing.{is_true, is_false}
@@ -13,9 +13,9 @@ use Rattle.message.specs.declared.fault.Fault.TheVariants.{Host}
 use Rattle.message.specs.declared.fault.Flaw.{Flaw}
 use Rattle.request.specs.Hosts.{is_host, host_among, server_from, at_server, chosen, server_of}
 use Rattle.request_laws.specs.Faults.{AsFields, Twice, FirstOther, OnlySent, IsHost, HostFault, none, second, unknown}
-use Rattle.request_laws.specs.Lines.{Hostless}
-use Rattle.request_laws.proofs.Hosts.{host_past, host_none, host_one}
-use Rattle.request_laws.proofs.SentAmong.{other_here, other_later, twice_here, twice_later, sent_here, sent_later}
+use Rattle.request_laws.specs.Lines.{Hostless, HostSpelled}
+use Rattle.request_laws.proofs.Hosts.{host_past, host_none, host_found}
+use Rattle.request_laws.proofs.SentAmong.{other_here, other_later, twice_here, twice_later, sent_here, sent_later, only_field}
 
 -- what it means that this `host` was found among fields, or that there is a second one
 abbrev HostIn : List Sent → Option Sent → Type 0
@@ -56,18 +56,28 @@ host_in (f ∷ fs) =
 abbrev Unknown : Text → List Text → Type 0
 Unknown name names = AllByRecursion (λ n. T (not (same_no_case n name))) names
 
-unknown_later : (name t : Text) (ts : List Text) → T (not (same_no_case t name)) → (o : Option ℕ) → IfNone o (Unknown name ts) → IfNone o (Unknown name (t ∷ ts))
-unknown_later name t ts h None u = (h, u)
-unknown_later name t ts h (Some n) u = tt
+-- the first of the names that is this one, counted from k on
+record First (k : ℕ) (name : Text) (names : List Text) (n : ℕ) : Type 0 where
+  earlier : List Text
+  here : Text
+  later : List Text
+  others : AllByRecursion (λ t. T (not (same_no_case t name))) earlier
+  same : T (same_no_case here name)
+  joined : names ≡ earlier ++ (here ∷ later)
+  count : k + length earlier ≡ n
 
--- a name that no server has
-unknown_in : (k : ℕ) (name : Text) (names : List Text) → IfNone (server_from k name names) (Unknown name names)
+named_later : (k : ℕ) (name t : Text) (ts : List Text) → T (not (same_no_case t name)) → (o : Option ℕ) → MatchOption o (Unknown name ts) (First (k + 1) name ts) → MatchOption o (Unknown name (t ∷ ts)) (First k name (t ∷ ts))
+named_later k name t ts h None u = (h, u)
+named_later k name t ts h (Some n) c = record { earlier = t ∷ c.earlier; here = c.here; later = c.later; others = (h, c.others); same = c.same; joined = ap (λ u. t ∷ u) c.joined; count = omega (arith, c.count) }
+
+-- the server of that name, or no server has it
+named_in : (k : ℕ) (name : Text) (names : List Text) → MatchOption (server_from k name names) (Unknown name names) (First k name names)
 unfolding server_from
-unknown_in k name [] = tt
-unknown_in k name (t ∷ ts) =
-    let P : Option ℕ → Type 0 = λ o. IfNone o (Unknown name (t ∷ ts)) in
-    cond_both (same_no_case t name) _ _ P (λ _. tt)
-    (λ e. unknown_later name t ts (rw e tt) (server_from (k + 1) name ts) (unknown_in (k + 1) name ts))
+named_in k name [] = tt
+named_in k name (t ∷ ts) =
+    cond_both (same_no_case t name) _ _ (λ o. MatchOption o (Unknown name (t ∷ ts)) (First k name (t ∷ ts)))
+    (λ e. record { earlier = []; here = t; later = ts; others = tt; same = rw e tt; joined = refl; count = omega arith })
+    (λ e. named_later k name t ts (rw e tt) (server_from (k + 1) name ts) (named_in (k + 1) name ts))
 
 unknown_from : (k : ℕ) (name : Text) (names : List Text) → Unknown name names → server_from k name names ≡ None
 unfolding server_from
@@ -75,23 +85,32 @@ unknown_from k name [] h = refl
 unknown_from k name (t ∷ ts) h = rw (is_false (same_no_case t name) h.0) (unknown_from (k + 1) name ts h.1)
 
 module _ (names : List Text) (fs : List Sent) (len : ℕ) where
-  abbrev Wrong : Result ℕ Flaw → Type 0
-  Wrong r = IfErr r (HostFault names fs len)
+  -- what it means that this server was found, or that this is wrong
+  abbrev Served : Result ℕ Flaw → Type 0
+  Served r = results.MatchResult r (HostSpelled names (AsFields fs)) (HostFault names fs len)
 
-  at_server_so : (g : Sent) → HostIn fs (Some g) → (o : Option ℕ) → IfNone o (Unknown g.value names) → Wrong (at_server o g.value_at)
+  at_server_so : (g : Sent) → HostIn fs (Some g) → (o : Option ℕ) → MatchOption o (Unknown g.value names) (First 0 g.value names) → Served (at_server o g.value_at)
   at_server_so g h None u = unknown g h.0 h.1 u
-  at_server_so g h (Some k) u = tt
+  at_server_so g h (Some k) c =
+      record { host = field_of g; only = only_field Hostless fs g h.0; named = h.1; earlier = c.earlier; name = c.here; later = c.later; others = c.others; same = c.same; joined = c.joined; count = omega (arith, c.count) }
 
-  choose : (o : Option Sent) → HostIn fs o → Wrong (chosen names (len - 2) o)
+  choose : (o : Option Sent) → HostIn fs o → Served (chosen names (len - 2) o)
   choose None h = none h
-  choose (Some g) h = at_server_so g h (server_from 0 g.value names) (unknown_in 0 g.value names)
+  choose (Some g) h = at_server_so g h (server_from 0 g.value names) (named_in 0 g.value names)
 
-  go : (r : Result (Option Sent) Flaw) → results.MatchResult r (HostIn fs) (SecondIn fs) → Wrong (onward r (chosen names (len - 2)))
+  go : (r : Result (Option Sent) Flaw) → results.MatchResult r (HostIn fs) (SecondIn fs) → Served (onward r (chosen names (len - 2)))
   go (Ok o) h = choose o h
   go (Err v) h = rw h.5 (second h.0 h.1 h.2 h.3 h.4)
 
-  pub host_wrong : Wrong (server_of names (len - 2) fs)
-  host_wrong = go (host_among None fs) (host_in fs)
+  served : Served (server_of names (len - 2) fs)
+  served = go (host_among None fs) (host_in fs)
+
+  -- the server that is found is the one that the only `host` names
+  pub host_read : (k : ℕ) → server_of names (len - 2) fs ≡ Ok k → HostSpelled names (AsFields fs) k
+  host_read k e = MatchResult-at_ok (HostSpelled names (AsFields fs)) (HostFault names fs len) k e served
+
+  pub host_wrong : (v : Flaw) → server_of names (len - 2) fs ≡ Err v → HostFault names fs len v
+  host_wrong v e = MatchResult-at_err (HostSpelled names (AsFields fs)) (HostFault names fs len) v e served
 
 -- two `host`s, and what is found of them
 second_found : (f g : Sent) (between behind : List Sent) → AllByRecursion Hostless (AsFields between) → IsHost f → IsHost g → host_among None (f ∷ (between ++ (g ∷ behind))) ≡ Err (flaw Host g.at)
@@ -105,5 +124,5 @@ host_refused names fs len v (second f g two i j) =
     ap (λ r. onward r (chosen names (len - 2)))
     (ap (host_among None) two.joined ∙ host_past None two.before _ two.others.0 ∙ second_found f g two.between two.behind two.others.1 i j)
 host_refused names fs len v (unknown f one i u) =
-    ap (λ r. onward r (chosen names (len - 2))) (ap (host_among None) one.joined ∙ host_past None one.before (f ∷ one.behind) one.others.0 ∙ host_one f one.behind i one.others.1)
+    ap (λ r. onward r (chosen names (len - 2))) (host_found fs f one i)
     ∙ ap (λ o. at_server o f.value_at) (unknown_from 0 f.value names u)

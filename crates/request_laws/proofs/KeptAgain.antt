@@ -1,28 +1,19 @@
 -- Fields that are kept of those as sent: they are canonical, fewer, have the one host, and are kept again as they are.
-use Rattle.std.proofs.Common.{◌≡◌, ℕ, suc, ◌+◌, ◌≤◌, Bool, true, false, cond, not, ◌&&◌, T, eqb, ◌⊎◌, List, [], ◌∷◌, ◌++◌, length, drop, codes, refl, ap, ◌∙◌, inl, inr, append-nil, arith}
+use Rattle.std.proofs.Common.{◌≡◌, ◌+◌, ◌≤◌, Bool, true, false, cond, not, ◌&&◌, T, ◌⊎◌, List, [], ◌∷◌, ◌++◌, length, drop, codes, refl, ap, ◌∙◌, inl, inr, append-nil, arith}
 use Rattle.std.specs.List.{AllByRecursion}
 use Rattle.std.proofs.ByRecursion.{All-push}
 use Rattle.std.proofs.lemmas.List.{length-append}
-use Rattle.std.proofs.lemmas.Bool.{cond-true, cond-false, cond_both, eqb-true, or_parts, or_from, and_right}
+use Rattle.std.proofs.lemmas.Bool.{cond-true, cond-false, cond_both, or_parts, or_from, and_right}
 use Rattle.text.specs.Bytes.{Text, lowered, same, same_no_case, among, all as eachByte}
 use Rattle.text.proofs.Folding.{lowered_lowered}
-use Rattle.text.proofs.Passing.{is_true, is_false, and_i, and_l, and_r}
+use Rattle.text.proofs.Passing.{is_true, is_false, and_i, and_l, and_r, same_is}
 use Rattle.message.specs.Fields.{Field, content_length, transfer_encoding, dropped, lower_name_byte, canonical_field, canonical_fields}
 use Rattle.message.specs.Hops.{hop_by_hop, named_by, is_dropped, canonical_of, kept_among, kept_of}
+use Rattle.message.proofs.Hopping.{fewer}
 use Rattle.message.proofs.Settled.{lowered_name, settled}
 use Rattle.request.specs.Canonical.{count_named, one_host, length_field}
 use Rattle.request_laws.specs.Lines.{Named, Unframing, Hostless, Only}
-use Rattle.request_laws.proofs.Fits.{Fit, canonical_of_so}
-
--- the same bytes are the same text
-same_text : (s t : Text) → same s t ≡ true → s ≡ t
-unfolding same
-same_text [] [] e = refl
-same_text [] (d ∷ t) e = let z : ◌≡◌ {A = ℕ} 0 1 = cc in absurd (omega arith)
-same_text (c ∷ s) [] e = let z : ◌≡◌ {A = ℕ} 0 1 = cc in absurd (omega arith)
-same_text (c ∷ s) (d ∷ t) e =
-    let h : T (eqb c d && same s t) = rw e tt in
-    rw (eqb-true c d (is_true (eqb c d) (and_l (eqb c d) (same s t) h)), same_text s t (is_true (same s t) (and_r (eqb c d) (same s t) h)))
+use Rattle.request_laws.proofs.Fits.{Fit, canonical_of_so, each_canonical}
 
 -- one field more is kept or not
 kept_in : (all : List Field) (f : Field) (fs : List Field) → is_dropped all f.name ≡ false → kept_among all (f ∷ fs) ≡ canonical_of f ∷ kept_among all fs
@@ -46,14 +37,6 @@ unfolding kept_among
 kept_joined all [] gs = refl
 kept_joined all (f ∷ fs) gs =
     ap (λ (ks : List Field). cond (is_dropped all f.name) ks (canonical_of f ∷ ks)) (kept_joined all fs gs) ∙ one_joined (is_dropped all f.name) (canonical_of f) (kept_among all fs) (kept_among all gs)
-
--- no more are kept than there are
-pub fewer : (all fs : List Field) → length (kept_among all fs) ≤ length fs
-unfolding kept_among
-fewer all [] = omega arith
-fewer all (f ∷ fs) =
-    let more = fewer all fs in
-    cond_both (is_dropped all f.name) (kept_among all fs) (canonical_of f ∷ kept_among all fs) (λ (ks : List Field). length ks ≤ suc (length fs)) (λ e. omega arith) (λ e. omega arith)
 
 -- what holds of each that is kept, in canonical form
 pub kept_all : (P : Field → Type 0) (Q : Field → Type 0) (all : List Field) → ((f : Field) → is_dropped all f.name ≡ false → P f → Q (canonical_of f)) → (fs : List Field) → AllByRecursion P fs → AllByRecursion Q (kept_among all fs)
@@ -98,24 +81,16 @@ canonical_name f h =
 
 -- canonical fields say nothing of the body
 pub canonical_unframing : (fs : List Field) → T (canonical_fields fs) → AllByRecursion Unframing fs
-unfolding canonical_fields
-canonical_unframing [] h = tt
-canonical_unframing (f ∷ fs) h =
-    let s = sound f.name (canonical_name f (and_l (canonical_field f) (canonical_fields fs) h)) in
-    (rw (s.size, s.encoding) tt, canonical_unframing fs (and_r (canonical_field f) (canonical_fields fs) h))
+canonical_unframing fs h = each_canonical Unframing (λ f k. let s = sound f.name (canonical_name f k) in rw (s.size, s.encoding) tt) fs h
 
 -- and none of them is a `connection`, so that none names another
 abbrev Unnaming : Field → Type 0
 Unnaming f = same_no_case f.name (codes "connection") ≡ false
 
 canonical_unnaming : (fs : List Field) → T (canonical_fields fs) → AllByRecursion Unnaming fs
-unfolding canonical_fields
-canonical_unnaming [] h = tt
-canonical_unnaming (f ∷ fs) h =
-    ((sound f.name (canonical_name f (and_l (canonical_field f) (canonical_fields fs) h))).connection, canonical_unnaming fs (and_r (canonical_field f) (canonical_fields fs) h))
+canonical_unnaming fs h = each_canonical Unnaming (λ f k. (sound f.name (canonical_name f k)).connection) fs h
 
 unnamed : (name : Text) (fs : List Field) → AllByRecursion Unnaming fs → named_by name fs ≡ false
-unfolding named_by
 unnamed name [] h = refl
 unnamed name (f ∷ fs) h = rw h.0 (unnamed name fs h.1)
 
@@ -166,7 +141,7 @@ only_fewer fs f o out =
     omega (arith, long, all, fewer fs b, fewer fs r)
 
 named_so : (name f : Text) → lowered name ≡ name → T (same_no_case f name) → lowered f ≡ name
-named_so name f e h = same_text (lowered f) (lowered name) (is_true (same (lowered f) (lowered name)) h) ∙ e
+named_so name f e h = same_is (lowered f) (lowered name) (is_true (same (lowered f) (lowered name)) h) ∙ e
 
 pub fewer_by_length : (fs : List Field) (f : Field) → Only Unframing fs f → Named content_length f → length (kept_of fs) + 1 ≤ length fs
 fewer_by_length fs f o h = only_fewer fs f o (framing_out fs f.name (inl (named_so content_length f.name (unfold lowered in refl) h)))

@@ -1,12 +1,14 @@
 -- The front of a text that passes a test, what follows it, and texts with something in them.
-use Rattle.std.proofs.Common.{◌≡◌, ℕ, ◌<◌, Bool, false, not, T, eqb, [], ◌∷◌, ◌++◌, length, get_or, take, refl, ap, ◌∙◌, arith}
+use Rattle.std.proofs.Common.{◌≡◌, ℕ, ◌+◌, ◌-◌, ◌<◌, ◌≤◌, Bool, not, T, eqb, [], ◌∷◌, ◌++◌, length, get_or, take, sym, refl, ap, ◌∙◌, ⊎_elim, append-nil, arith}
+use lib.Seq.{take-append-add}
 use Rattle.std.specs.List.{prefix_len}
-use Rattle.std.proofs.lemmas.Bool.{eqb-true, not-false}
-use Rattle.std.proofs.lemmas.List.{take_at, get_or_at, append-nil}
+use Rattle.std.proofs.lemmas.Bool.{cases_lt, eqb-true, not-false}
+use Rattle.std.proofs.lemmas.List.{take_at, take_all, take-append-le, take-take, length-take-le}
+use Rattle.std.proofs.lemmas.List.Sums.{prefix_len-le-length, prefix_len_stops}
 use Rattle.text.specs.Bytes.{Text, all, nonempty}
 use Rattle.text.specs.Marks.{before}
-use Rattle.text.proofs.Passing.{is_false}
-use Rattle.text_laws.proofs.Fronts.{stops, split, leading_at}
+use Rattle.text.proofs.Passing.{and_r, all_take}
+use Rattle.text_laws.proofs.Fronts.{split, leading_at}
 
 -- what is counted passes
 pub all_leading : (p : ℕ → Bool) (t : Text) → T (all p (take (prefix_len p t) t))
@@ -15,20 +17,35 @@ all_leading p t =
     let n = leading_at p s.front s.rest s.passes s.ends in
     rw (s.joined, n, take_at s.front s.rest (length s.front) refl) s.passes
 
-stop_at : (p : ℕ → Bool) (l s : Text) → T (stops p s) → length l < length (l ++ s) → p (get_or (l ++ s) (length l) 0) ≡ false
-stop_at p l [] h some = absurd (let none = append-nil l in omega (arith, ap length none))
-stop_at p l (c ∷ s) h some = rw (get_or_at l c s 0 (length l) refl) (is_false (p c) h)
+-- and so does a front of that
+pub leads : (p : ℕ → Bool) (t : Text) (n : ℕ) → n ≤ prefix_len p t → T (all p (take n t)) × (length (take n t) ≡ n)
+leads p t n h = (rw (take-take n (prefix_len p t) t h) at (all_take p n (take (prefix_len p t) t) (all_leading p t)), length-take-le n t (omega (arith, prefix_len-le-length p t)))
 
--- and the byte behind it, where there is one, does not
-pub stops_leading : (p : ℕ → Bool) (t : Text) → prefix_len p t < length t → p (get_or t (prefix_len p t) 0) ≡ false
-stops_leading p t h =
-    let s = split p t in
-    let n : prefix_len p t ≡ length s.front = ap (prefix_len p) s.joined ∙ leading_at p s.front s.rest s.passes s.ends in
-    ap (λ k. p (get_or t k 0)) n ∙ ap (λ u. p (get_or u (length s.front) 0)) s.joined ∙ stop_at p s.front s.rest s.ends (omega (arith, ap length s.joined))
+-- what holds of all bytes holds of those in front, and of those behind
+pub all_front : (p : ℕ → Bool) (s t : Text) → T (all p (s ++ t)) → T (all p s)
+all_front p s t h = rw (take_at s t (length s) refl) at (all_take p (length s) (s ++ t) h)
+
+pub all_behind : (p : ℕ → Bool) (s t : Text) → T (all p (s ++ t)) → T (all p t)
+unfolding all
+all_behind p [] t h = h
+all_behind p (c ∷ s) t h = all_behind p s t (and_r (p c) (all p (s ++ t)) h)
+
+-- the front of two texts joined
+pub take_joined : (n : ℕ) (s t : Text) → take n (s ++ t) ≡ take n s ++ take (n - length s) t
+take_joined n s t =
+    ⊎_elim
+    (λ (h : n < length s).
+    let le : n ≤ length s = omega arith in
+    let none : n - length s ≡ 0 = omega arith in
+    take-append-le n s t le ∙ sym (append-nil (take n s)) ∙ ap (λ k. take n s ++ take k t) (sym none))
+    (λ (h : length s ≤ n).
+    let far : n ≡ length s + (n - length s) = omega arith in
+    ap (λ k. take k (s ++ t)) far ∙ take-append-add s t (n - length s) ∙ ap (λ u. u ++ take (n - length s) t) (sym (take_all n s h)))
+    (cases_lt n (length s))
 
 -- a mark stands where it was found
 pub mark_at : (m : ℕ) (t : Text) → before m t < length t → get_or t (before m t) 0 ≡ m
-mark_at m t h = eqb-true (get_or t (before m t) 0) m (not-false (eqb (get_or t (before m t) 0) m) (stops_leading (λ c. not (eqb c m)) t h))
+mark_at m t h = eqb-true (get_or t (before m t) 0) m (not-false (eqb (get_or t (before m t) 0) m) (prefix_len_stops (λ c. not (eqb c m)) t 0 h))
 
 -- some bytes
 pub nonempty_by : (t : Text) → 0 < length t → T (nonempty t)

@@ -20,7 +20,6 @@ pub mod KeptAgain
 pub mod SentAgain
 pub mod Again
 pub mod Passes
-pub mod LinesStay
 pub mod HeadStays
 pub mod HeadPasses
 pub mod HeadSound

@@ -3,7 +3,7 @@ use Rattle.std.proofs.Common.{◌≡◌, ℕ, zero, suc, ◌+◌, ◌-◌, ◌�
 use native.Mathlib.Nat.{sub-zero}
 use Rattle.std.specs.List.{prefix_len}
 use Rattle.std.proofs.lemmas.List.{length-append, nil_from_length, take_at}
-use Rattle.std.proofs.lemmas.Bool.{cond_both, cond-false, eqb-true, eqb-false, ne_eqb}
+use Rattle.std.proofs.lemmas.Bool.{cond_both, eqb-true, eqb-false}
 use Rattle.text.specs.Bytes.{Text, all, clean, blank, nonempty}
 use Rattle.text.specs.Cuts.{LineCut, whole, short, stray, cut_line}
 use Rattle.text_laws.specs.Laws.{Strays}
@@ -12,11 +12,13 @@ use Rattle.message.specs.Hops.{field_of}
 use Rattle.message.specs.Sent.{Sent, Found, ended, more, wrong, with_fields, on_line, on_cut, check_field, check_line, sent_at, line_then, fields_from}
 use Rattle.message.specs.declared.fault.Flaw.{Flaw}
 use Rattle.message.proofs.Reading.{with_none, with_more, line_wrong}
-use Rattle.request_laws.specs.Faults.{LineEnds, crlf, stray as strayEnd, Unended, LinesPlaced, none, line, FieldLineIn}
-use Rattle.request_laws.specs.Lines.{FieldSpelled}
-use Rattle.request_laws.proofs.Leads.{nonempty_by, nonempty_long}
-use Rattle.request_laws.proofs.Fields.{field_read, field_spelled, field_clean, field_stray, field_colon}
-use Rattle.request_laws.proofs.Lines.{cut_first}
+use Rattle.request_laws.specs.Faults.{LineEnds, crlf, stray as strayEnd, Unended, LinesPlaced, none, line, AsFields, FieldLineIn}
+use Rattle.request_laws.specs.HeadLaws.{HeadSpelled, FieldsRead}
+use Rattle.request_laws.specs.Lines as lines
+use Rattle.request_laws.specs.Lines.{FieldSpelled, LinesSpelled}
+use Rattle.request_laws.proofs.Leads.{nonempty_by}
+use Rattle.request_laws.proofs.Fields.{field_read, field_spelled, field_stray, field_colon}
+use Rattle.request_laws.proofs.Lines.{cut_first, line_first, field_first, fields_spelled}
 
 -- A text t at the place at is good lines, and then rest at the place to.
 pub record Through (at : ℕ) (t : Text) (fs : List Sent) (to : ℕ) (rest : Text) : Type 0 where
@@ -92,6 +94,17 @@ unfolding line_then
 reads zero at t = on_cut_so zero at t (line_then zero at) (cut_line t) refl (λ l rest h i. wrong_once zero at (l ++ (13 ∷ 10 ∷ rest)) l true _ (whole_in_so l rest h i) (unfold check_line in refl))
 reads (suc k) at t = on_cut_so (suc k) at t (line_then (suc k) at) (cut_line t) refl (λ l rest h i. on_first_so k at l rest h i (reads k) (check_field at l true) refl)
 
+-- field lines are spelled, whatever their places
+pub lines_spelled : {at : ℕ} {t : Text} {fs : List Sent} → LinesPlaced at t fs → LinesSpelled t (AsFields fs)
+lines_spelled none = lines.none
+lines_spelled (line l t s here value next) = lines.line l t s (lines_spelled next)
+
+-- so the fields that are found are those of the lines
+pub fields_read : (k at : ℕ) (t : Text) (fs : List Sent) (end : ℕ) → fields_from k at t ≡ ended fs end → HeadSpelled k at t fs end
+fields_read k at t fs end e =
+    let r = subst (Reads k at t) e (reads k at t) in
+    (r.2.lines, r.1, r.2.text, lines_spelled r.2.placed, r.3, omega (arith, r.4, r.2.place))
+
 -- a field that has the places of its line is the one that is found in it
 is_sent : (at : ℕ) (l : Text) (f : Sent) → FieldSpelled l (field_of f) → f.at ≡ at → f.value_at ≡ at + (length f.name + 1 + prefix_len blank (drop (length f.name + 1) l)) → sent_at at (length f.name) l ≡ f
 is_sent at l f s here value =
@@ -105,13 +118,7 @@ is_sent at l f s here value =
 
 -- one line, and what is found behind it
 one_found : (k at : ℕ) (l t : Text) (f : Sent) → FieldSpelled l (field_of f) → sent_at at (length f.name) l ≡ f → fields_from (suc k) at (l ++ (13 ∷ 10 ∷ t)) ≡ with_fields (f ∷ []) (fields_from k (at + (length l + 2)) t)
-unfolding line_then
-one_found k at l t f s is =
-    let to = at + (length l + 2) in
-    let clear = field_clean l (field_of f) s in
-    let some : eqb (length l) 0 ≡ false = ne_eqb (length l) 0 (let long = nonempty_long l clear.1 in omega arith) in
-    cut_first (suc k) at l t clear.0 ∙ cond-false (eqb (length l) 0) (ended [] (at + 2)) (line_then (suc k) at l t) some
-    ∙ ap (λ r. on_line r (λ m. with_fields (sent_at at m l ∷ []) (fields_from k to t))) (field_spelled at l (field_of f) s).0 ∙ ap (λ g. with_fields (g ∷ []) (fields_from k to t)) is
+one_found k at l t f s is = field_first k at l t (field_of f) s ∙ ap (λ g. with_fields (g ∷ []) (fields_from k (at + (length l + 2)) t)) is
 
 -- good lines are found, and then what stands behind them
 lines_found : (k at : ℕ) (lines rest : Text) (fs : List Sent) → LinesPlaced at lines fs → length fs ≤ k → fields_from k at (lines ++ rest) ≡ with_fields fs (fields_from (k - length fs) (at + length lines) rest)
@@ -134,10 +141,8 @@ cut_stray t l s h x e = ((stray_line t (length l)).1 (l, s, h, refl, e, x), ap (
 
 -- a line that is wrong is found so
 wrong_found : (k at : ℕ) (t l behind : Text) (e : Bool) (v : Flaw) → LineEnds e behind → T (clean l) → t ≡ l ++ behind → T (nonempty l) ⊎ (e ≡ false) → check_line k at l e ≡ Err v → fields_from k at t ≡ wrong v
-wrong_found k at t l behind e v (crlf {rest}) h j (inl n) c =
-    let some : eqb (length l) 0 ≡ false = ne_eqb (length l) 0 (let long = nonempty_long l n in omega arith) in
-    ap (fields_from k at) j ∙ cut_first k at l rest h ∙ cond-false (eqb (length l) 0) (ended [] (at + 2)) (line_then k at l rest) some ∙ line_wrong k at l rest v (sym c)
-wrong_found k at t l behind e v (crlf {rest}) h j (inr n) c = absurd (let z : ◌≡◌ {A = ℕ} 0 1 = cc in omega arith)
+wrong_found k at t l behind e v (crlf {rest}) h j (inl n) c = ap (fields_from k at) j ∙ line_first k at l rest h n ∙ line_wrong k at l rest v (sym c)
+wrong_found k at t l behind e v (crlf {rest}) h j (inr n) c = cc
 wrong_found k at t l behind e v (strayEnd x) h j n c =
     let s = cut_stray t l behind h x j in
     ap (on_cut k at t (line_then k at)) s.0 ∙ ap (λ u. on_line (check_line k at u false) (λ _. more)) s.1 ∙ ap (λ r. on_line r (λ _. more)) c
@@ -152,3 +157,7 @@ reads_found k at t more h =
 reads_found k at t (wrong v) h =
     let i = h.7.0 in
     through_found k at t h.0 h.1 h.2 h.5 h.6 ∙ ap (with_fields h.0) (wrong_found (k - length h.0) h.1 h.2 h.3 i.behind h.4 v i.ends i.tidy i.text h.7.1 h.8)
+
+-- the law of field lines
+pub fields : FieldsRead
+fields = (fields_read, fields_spelled)

@@ -1,7 +1,8 @@
 -- What a memory holds after a write to a place in it.
 use Rattle.std.proofs.Common.{◌≡◌, ℕ, ◌+◌, ◌-◌, ◌≤◌, ◌++◌, length, take, drop, sym, refl, ap, ◌∙◌, arith}
-use lib.Seq.{take-append-add}
-use Rattle.std.proofs.lemmas.List.{length-append, length-take-le, length-drop, take-append-le, take-take, take_at, drop_at, drop-drop, drop-take}
+use borrow.Rule.Slice.PartMut.{put_mid}
+use Rattle.std.proofs.lemmas.List.{length-append, length-take-le, length-drop, take-take, drop_at, drop-drop, drop-take}
+use Rattle.std.proofs.lemmas.Slice.{take-put_mid_below, take-put_mid, drop-put_mid}
 use Rattle.text.specs.Bytes.{Text, placed}
 use Rattle.text.proofs.Places.{placed_fits}
 use Rattle.request.specs.Reading.{placed_at}
@@ -24,31 +25,27 @@ module _ (n : ℕ) (ys xs : Text) (room : n + length ys ≤ length xs) where
   pub placed_long : length (placed_at n ys xs) ≡ length xs
   placed_long = simp (length-append, length-drop) (omega (arith, front_long))
 
+  -- as the library has it
+  is_put : placed_at n ys xs ≡ put_mid n (length ys) xs ys
+  is_put = ap (λ zs. take n xs ++ (ys ++ zs)) (sym (drop-drop (length ys) n xs))
+
+  inside : n ≤ length xs
+  inside = omega arith
+
   -- what lies before it is as it was
   pub placed_before : (k : ℕ) → k ≤ n → take k (placed_at n ys xs) ≡ take k xs
-  placed_before k h =
-      let le : k ≤ length (take n xs) = omega (arith, front_long) in
-      take-append-le k (take n xs) (ys ++ drop (n + length ys) xs) le ∙ take-take k n xs h
+  placed_before k h = ap (take k) is_put ∙ take-put_mid_below n (length ys) xs ys k h inside
 
   -- and what was written stands behind it
   pub placed_there : drop n (placed_at n ys xs) ≡ ys ++ drop (n + length ys) xs
   placed_there = drop_at (take n xs) (ys ++ drop (n + length ys) xs) n front_long
 
   pub placed_upto : take (n + length ys) (placed_at n ys xs) ≡ take n xs ++ ys
-  placed_upto =
-      let sum : n + length ys ≡ length (take n xs) + length ys = omega (arith, front_long) in
-      ap (λ k. take k (placed_at n ys xs)) sum ∙ take-append-add (take n xs) (ys ++ drop (n + length ys) xs) (length ys) ∙ ap (λ zs. take n xs ++ zs) (take_at ys (drop (n + length ys) xs) (length ys) refl)
+  placed_upto = ap (take (n + length ys)) is_put ∙ take-put_mid n (length ys) xs ys (n + length ys) refl inside
 
   -- what lies behind that is as it was
   pub placed_behind : (k : ℕ) → n + length ys ≤ k → drop k (placed_at n ys xs) ≡ drop k xs
-  placed_behind k h =
-      let m = k - (n + length ys) in
-      let far : k ≡ n + length ys + m = omega arith in
-      ap (λ i. drop i (placed_at n ys xs)) far
-      ∙ sym (drop-drop m (n + length ys) (placed_at n ys xs))
-      ∙ ap (drop m) (sym (drop-drop (length ys) n (placed_at n ys xs)) ∙ ap (drop (length ys)) placed_there ∙ drop_at ys (drop (n + length ys) xs) (length ys) refl)
-      ∙ drop-drop m (n + length ys) xs
-      ∙ ap (λ i. drop i xs) (sym far)
+  placed_behind k h = ap (drop k) is_put ∙ drop-put_mid n (length ys) xs ys k h inside refl
 
   -- a write to the front of what lies behind a place is a write to that place
   pub placed_on : take n xs ++ placed ys (drop n xs) ≡ placed_at n ys xs

@@ -1,8 +1,7 @@
 -- What was found in a client's bytes stays found, whatever follows.
-use Rattle.std.proofs.Common.{◌≡◌, ℕ, ◌+◌, ◌-◌, ◌<◌, ◌≤◌, leb, List, ◌++◌, length, take, drop, Some, None, Ok, Err, Option, Result, sym, refl, ap, ◌∙◌, ap₂, ⊎_elim, append-nil, arith}
-use lib.Seq.{take-append-add}
-use Rattle.std.proofs.lemmas.List.{length-append, length-take, length-drop, take_all, take-append-le, drop-append-le}
-use Rattle.std.proofs.lemmas.Bool.{cases_lt, cond_both, cond-true, leb-true, le-leb}
+use Rattle.std.proofs.Common.{◌≡◌, ◌+◌, ◌-◌, ◌≤◌, leb, List, ◌++◌, length, take, drop, Some, None, Ok, Err, Option, Result, refl, ap, ◌∙◌, ap₂, arith}
+use Rattle.std.proofs.lemmas.List.{length-append, length-take, length-drop, take-append-le, drop-append-le}
+use Rattle.std.proofs.lemmas.Bool.{cond_both, cond-true, leb-true, le-leb}
 use Rattle.text.specs.Bytes.{Text}
 use Rattle.message.specs.Chunked.{Run, run}
 use Rattle.message.specs.declared.chunked.Chunk.{Chunk}
@@ -19,19 +18,7 @@ use Rattle.request_laws.specs.Outcome.{wants, whole, judged_whole, on_run, on_du
 use Rattle.request_laws.specs.Laws.{Stays}
 use Rattle.request_laws.proofs.HeadStays.{head_stays}
 use Rattle.request_laws.proofs.HeadSound.{sound}
-
--- the front of two texts joined
-pub take_joined : (n : ℕ) (s t : Text) → take n (s ++ t) ≡ take n s ++ take (n - length s) t
-take_joined n s t =
-    ⊎_elim
-    (λ (h : n < length s).
-    let le : n ≤ length s = omega arith in
-    let none : n - length s ≡ 0 = omega arith in
-    take-append-le n s t le ∙ sym (append-nil (take n s)) ∙ ap (λ k. take n s ++ take k t) (sym none))
-    (λ (h : length s ≤ n).
-    let far : n ≡ length s + (n - length s) = omega arith in
-    ap (λ k. take k (s ++ t)) far ∙ take-append-add s t (n - length s) ∙ ap (λ u. u ++ take (n - length s) t) (sym (take_all n s h)))
-    (cases_lt n (length s))
+use Rattle.request_laws.proofs.Leads.{take_joined}
 
 -- the window, once what came first is judged, is judged the same with more
 pub window_stays : (names : List Text) (s t : Text) → (judged names (take window s) ≡ Ok None → ⊥) → judged names (take window (s ++ t)) ≡ judged names (take window s)

@@ -1,16 +1,19 @@
 -- Every path of good tokens is good parts, each after a slash, and then nothing or a bad part.
-use Rattle.std.proofs.Common.{◌≡◌, ℕ, ◌+◌, ◌<◌, true, false, not, T, eqb, leb, ◌⊎◌, List, [], ◌∷◌, ◌++◌, length, drop, Some, None, sym, refl, ap, ◌∙◌, subst, inl, inr, ⊎_elim, append_assoc, append-nil, arith}
+use Rattle.std.proofs.Common.{◌≡◌, ℕ, ◌+◌, ◌<◌, ◌≤◌, true, false, not, ◌||◌, T, eqb, leb, ◌⊎◌, List, [], ◌∷◌, ◌++◌, length, drop, Some, None, Option, sym, refl, ap, ◌∙◌, subst, inl, inr, ⊎_elim, append_assoc, append-nil, arith}
 use Rattle.std.proofs.lemmas.List.{length-append}
-use Rattle.std.proofs.lemmas.Bool.{cases_Bool, cond-true, cond-false, eqb-true, lt-leb}
-use Rattle.text.specs.Bytes.{Text, nonempty}
+use Rattle.std.proofs.lemmas.Bool.{cases_Bool, or_cases, cond-true, cond-false, eqb-true, leb-true, lt-leb}
+use Rattle.text.specs.Numerals.{hex_pair}
+use Rattle.text.specs.Bytes.{Text, plain_byte, nonempty}
 use Rattle.text.specs.Marks.{split}
-use Rattle.text.proofs.Passing.{is_true, is_false}
+use Rattle.text.proofs.Passing.{is_true, is_false, differs}
 use Rattle.request.specs.Canonical.{begins_with_slash}
-use Rattle.request.specs.Targets.{capital, bad_part, bad_part_in, bad_part_of, tokens, tokens_at}
+use Rattle.request.specs.Targets.{capital, bad_part, bad_part_in, bad_part_of, good_code}
 use Rattle.request.specs.Places.{Piece, Plain, Coded, good_part}
+use Rattle.request_laws.specs.Faults.{TokenSpelled, TokensSpelled}
+use Rattle.request_laws.specs.Faults as tokens
 use Rattle.request_laws.specs.Targets.{PartSpelled, end, bare, undone, left, PartsSpelled, none, part, PathSpelled, root, parts}
+use Rattle.request_laws.proofs.Leads.{nonempty_by, nonempty_long}
 use Rattle.request_laws.proofs.Parts.{part_bad}
-use Rattle.request_laws.proofs.Tokens.{all_good, Good, nothing, slash, plain, coded, good}
 use Rattle.request_laws.proofs.Paths.{part_bytes, split_one, split_more, fine_part}
 
 -- nothing, or a slash and more
@@ -33,7 +36,7 @@ parts_passed at t ps w (part r u {p} {ps = qs} s g m) =
     let n : at + (length r + 1) + length u ≡ at + length (47 ∷ (r ++ u)) = simp length-append (omega arith) in
     let cut : split 47 ((r ++ u) ++ (47 ∷ w)) ≡ r ∷ split 47 rest =
     ap (split 47) (append_assoc r u (47 ∷ w) ∙ ap (λ v. r ++ v) (before_slash u qs w m)) ∙ split_more r rest (part_bytes r p s) in
-    ap (bad_part_in at) cut ∙ passed at r (split 47 rest) (is_false (bad_part r) (fine_part r p s g)) ∙ parts_passed (at + (length r + 1)) u qs w m ∙ ap (λ k. bad_part_in k (split 47 w)) n
+    ap (bad_part_in at) cut ∙ passed at r (split 47 rest) (fine_part r p s g) ∙ parts_passed (at + (length r + 1)) u qs w m ∙ ap (λ k. bad_part_in k (split 47 w)) n
 
 -- a bad part is found at its end
 found : (at : ℕ) (t : Text) (ts : List Text) → bad_part t ≡ true → bad_part_in at (t ∷ ts) ≡ Some (at + length t)
@@ -47,22 +50,12 @@ part_found : (at : ℕ) (t : Text) (p : List Piece) (behind : Text) → PartSpel
 part_found at t p behind s h (inl e) = rw (e, append-nil t, split_one t (part_bytes t p s)) (found at t [] (bad_part_so t p s h))
 part_found at t p behind s h (inr (more, e)) = rw (e, split_more t more (part_bytes t p s)) (found at t (split 47 more) (bad_part_so t p s h))
 
-some_length : (t : Text) → T (nonempty t) → 0 < length t
-unfolding nonempty
-some_length [] h = absurd h
-some_length (c ∷ t) h = omega arith
-
-length_some : (t : Text) → 0 < length t → T (nonempty t)
-unfolding nonempty
-length_some [] h = absurd (omega arith)
-length_some (c ∷ t) h = tt
-
 -- the same in a path
 pub path_found : (front : Text) (ps : List (List Piece)) (t : Text) (p : List Piece) (behind : Text) → PartsSpelled front ps → PartSpelled t p → T (not (good_part p)) → Ends behind → T (nonempty (front ++ (t ++ behind))) →
     bad_part_of (front ++ (47 ∷ (t ++ behind))) ≡ Some (length front + 1 + length t)
 path_found front ps t p behind m s h e n =
     let path = front ++ (47 ∷ (t ++ behind)) in
-    let most = simp length-append at (some_length (front ++ (t ++ behind)) n) in
+    let most = simp length-append at (nonempty_long (front ++ (t ++ behind)) n) in
     let long : 1 < length path = simp length-append (omega arith) in
     cond-false (leb (length path) 1) None (bad_part_in 1 (split 47 (drop 1 path))) (lt-leb (length path) 1 long) ∙ parts_passed 1 front ps (t ++ behind) m ∙ part_found (1 + length front) t p behind s h e
     ∙ ap (λ k. Some k) (omega arith)
@@ -88,13 +81,32 @@ onto f p s r h =
 behind_slash : (s : Text) → Slices s → Sliced (47 ∷ s)
 behind_slash s r = rw r.joined (slice r.front r.rest r.first r.then)
 
-slices : (s : Text) → Good s → Slices s
-slices s nothing = record { front = []; rest = []; pieces = []; first = end; then = nomore; joined = refl }
-slices s (slash {t = u} g) = record { front = []; rest = 47 ∷ u; pieces = []; first = end; then = behind_slash u (slices u g); joined = refl }
-slices s (plain {c} {t = u} h g) = let r = slices u g in onto (c ∷ []) (Plain c) u r (bare h r.first)
-slices s (coded {a} {b} v {t = u} e k g) =
-    let r = slices u g in
-    ⊎_elim (λ h. onto (37 ∷ a ∷ b ∷ []) (Plain v) u r (undone v e h r.first)) (λ h. onto (37 ∷ a ∷ b ∷ []) (Coded (capital a) (capital b)) u r (left v e h r.first)) k
+-- what the byte of a good code is
+coded_byte : (a b : ℕ) (o : Option ℕ) → hex_pair a b ≡ o → T (good_code o) → (v : ℕ) × (hex_pair a b ≡ Some v) × (T (plain_byte v) ⊎ (128 ≤ v))
+coded_byte a b None e h = absurd h
+coded_byte a b (Some v) e h = (v, e, ⊎_elim (λ p. inl (rw p tt)) (λ l. inr (leb-true 128 v l)) (or_cases (plain_byte v) (leb 128 v) (is_true (plain_byte v || leb 128 v) h)))
+
+slice_on : (t u : Text) → TokenSpelled t → Slices u → Slices (t ++ u)
+slice_on t u tokens.slash r = record { front = []; rest = 47 ∷ u; pieces = []; first = end; then = behind_slash u r; joined = refl }
+slice_on t u (tokens.bare {c} h) r = onto (c ∷ []) (Plain c) u r (bare h r.first)
+slice_on t u (tokens.coded {a} {b} g) r =
+    let k = coded_byte a b (hex_pair a b) refl g in
+    ⊎_elim (λ h. onto (37 ∷ a ∷ b ∷ []) (Plain k.0) u r (undone k.0 k.1 h r.first)) (λ h. onto (37 ∷ a ∷ b ∷ []) (Coded (capital a) (capital b)) u r (left k.0 k.1 h r.first)) k.2
+
+slices : (s : Text) → TokensSpelled s → Slices s
+slices s tokens.none = record { front = []; rest = []; pieces = []; first = end; then = nomore; joined = refl }
+slices s (tokens.token t u h m) = slice_on t u h (slices u m)
+
+-- where a slash comes first, parts each after a slash
+sliced_on : (t u : Text) → TokenSpelled t → Slices u → T (begins_with_slash (t ++ u)) → Sliced (t ++ u)
+unfolding begins_with_slash
+sliced_on t u tokens.slash r b = behind_slash u r
+sliced_on t u (tokens.bare {c} h) r b = absurd (rw (differs plain_byte 47 c refl h) at b)
+sliced_on t u (tokens.coded g) r b = absurd b
+
+sliced : (s : Text) → TokensSpelled s → T (begins_with_slash s) → Sliced s
+sliced s tokens.none b = nomore
+sliced s (tokens.token t u h m) b = sliced_on t u h (slices u m) b
 
 -- parts, of which one is bad
 pub record PartFault (s : Text) : Type 0 where
@@ -145,16 +157,10 @@ path_of_so c t ps (part r u s g m) = parts (part r u s g m)
 abbrev pub Pathed : Text → Type 0
 Pathed t = ((ps : List (List Piece)) × PathSpelled t ps) ⊎ ((f : PartFault t) × T (nonempty (f.front ++ (f.bad ++ f.behind))))
 
-more_some : (c : ℕ) (s : Text) (f : PartFault (47 ∷ c ∷ s)) → T (nonempty (f.front ++ (f.bad ++ f.behind)))
-more_some c s f = let n = simp length-append at (ap length f.joined) in length_some (f.front ++ (f.bad ++ f.behind)) (simp length-append (omega arith))
+more_some : (b c : ℕ) (s : Text) (f : PartFault (b ∷ c ∷ s)) → T (nonempty (f.front ++ (f.bad ++ f.behind)))
+more_some b c s f = let n = simp length-append at (ap length f.joined) in nonempty_by (f.front ++ (f.bad ++ f.behind)) (simp length-append (omega arith))
 
-slash_cut : (s : Text) → T (all_good (tokens (47 ∷ s))) → Pathed (47 ∷ s)
-unfolding all_good tokens_at
-slash_cut [] g = inl ([], root)
-slash_cut (c ∷ s) g =
-    ⊎_elim (λ m. inl (m.0, path_of_so 47 (c ∷ s) m.0 m.1)) (λ f. inr (f, more_some c s f)) (parted (47 ∷ c ∷ s) (behind_slash (c ∷ s) (slices (c ∷ s) (good (c ∷ s) g))))
-
-pub path_cut : (t : Text) → T (begins_with_slash t) → T (all_good (tokens t)) → Pathed t
-unfolding begins_with_slash
-path_cut [] b = absurd b
-path_cut (c ∷ s) b = let is = eqb-true c 47 (is_true (eqb c 47) b) in subst (λ x. T (all_good (tokens (x ∷ s))) → Pathed (x ∷ s)) (sym is) (slash_cut s)
+pub path_cut : (t : Text) → T (begins_with_slash t) → TokensSpelled t → Pathed t
+path_cut [] b m = absurd (unfold begins_with_slash in b)
+path_cut (c ∷ []) b m = inl ([], subst (λ x. PathSpelled (x ∷ []) []) (sym (eqb-true c 47 (is_true (eqb c 47) (unfold begins_with_slash in b)))) root)
+path_cut (c ∷ d ∷ s) b m = ⊎_elim (λ p. inl (p.0, path_of_so c (d ∷ s) p.0 p.1)) (λ f. inr (f, more_some c d s f)) (parted (c ∷ d ∷ s) (sliced (c ∷ d ∷ s) m b))

@@ -2,9 +2,10 @@
 use Rattle.std.proofs.Common.{◌≡◌, ℕ, suc, ◌-◌, ◌≤◌, Bool, true, false, cond, not, ◌&&◌, ◌||◌, T, eqb, List, [], ◌∷◌, length, drop, Some, codes, sym, refl, ap, ◌∙◌, ap₂, arith}
 use Rattle.std.proofs.lemmas.Bool.{ne_eqb}
 use Rattle.std.proofs.lemmas.Bool.Decides.{nat_tests}
+use Rattle.text.specs.Numerals.{hex_pair}
 use Rattle.text.specs.Bytes.{Text, plain_byte, nonempty, same, lowered, same_no_case}
 use Rattle.text.proofs.Passing.{is_true, and_i, and_r, differs}
-use Rattle.request.specs.Targets.{code_value, capital, ends_in_dot, bad_part}
+use Rattle.request.specs.Targets.{capital, ends_in_dot, bad_part}
 use Rattle.request.specs.Places.{Piece, high_digit, capital_digit, good_pieces, part_text, last_is_dot, good_part}
 use Rattle.request_laws.specs.Targets.{PartSpelled, end, bare, undone, left}
 use Rattle.request_laws.proofs.Codes.{hex_digit, first_digit, second_digit, capitals, dot_code}
@@ -37,7 +38,7 @@ end_byte c (x ∷ []) e = refl
 end_byte c (x ∷ y ∷ []) e = grind (arith, nat_tests)
 end_byte c (x ∷ y ∷ z ∷ t) e = refl
 
-end_code : (a b v : ℕ) (t : Text) → code_value a b ≡ Some v → dot_end (37 ∷ a ∷ b ∷ t) ≡ cond (nonempty t) (dot_end t) (eqb v 46)
+end_code : (a b v : ℕ) (t : Text) → hex_pair a b ≡ Some v → dot_end (37 ∷ a ∷ b ∷ t) ≡ cond (nonempty t) (dot_end t) (eqb v 46)
 unfolding dot_end nonempty
 end_code a b v [] e = dot_code a b v e
 end_code a b v (c ∷ t) e = end_byte a (b ∷ c ∷ t) (differs hex_digit 37 a refl (first_digit a b v e)) ∙ end_byte b (c ∷ t) (differs hex_digit 37 b refl (second_digit a b v e))
@@ -48,7 +49,7 @@ last_byte c [] = refl
 last_byte c (d ∷ t) = refl
 
 -- the code of a byte above 127 is that of no dot
-not_dot : (a b v : ℕ) → code_value a b ≡ Some v → 128 ≤ v → eqb v 46 ≡ eqb (capital b) 46
+not_dot : (a b v : ℕ) → hex_pair a b ≡ Some v → 128 ≤ v → eqb v 46 ≡ eqb (capital b) 46
 not_dot a b v e h = ne_eqb v 46 (omega arith) ∙ sym (differs capital_digit 46 (capital b) refl (and_r (high_digit (capital a)) (capital_digit (capital b)) (capitals a b v e h)))
 
 -- a part as sent is empty, and ends in a dot, where the part that it means is and does

@@ -1,18 +1,17 @@
 -- A head, as far as it has come, is refused exactly where a line or the whole of it breaks the grammar.
-use Rattle.std.proofs.Common.{◌≡◌, ℕ, suc, ◌+◌, ◌-◌, ◌<◌, ◌≤◌, Bool, true, false, T, ltb, leb, ◌⊎◌, List, [], ◌∷◌, ◌++◌, length, take, drop, Some, None, Ok, Err, Option, Result, sym, refl, ap, ◌∙◌, subst, inl, inr, ⊎_elim, arith}
-use Rattle.std.proofs.lemmas.List.{length-append, take_at, drop_at, drop-drop}
+use Rattle.std.proofs.Common.{◌≡◌, ℕ, suc, ◌+◌, ◌-◌, ◌<◌, ◌≤◌, Bool, true, false, T, ltb, ◌⊎◌, List, ◌∷◌, ◌++◌, length, take, drop, Some, None, Ok, Err, Option, Result, sym, refl, ap, ◌∙◌, subst, inl, inr, ⊎_elim, arith}
+use Rattle.std.proofs.lemmas.List.{take_at}
 use Rattle.std.proofs.lemmas.Result.{MatchResult-at_err}
-use Rattle.std.proofs.lemmas.Bool.{cond_both, cond-true, cases_lt, ltb-false, le-ltb, le-leb}
-use Rattle.text.specs.Bytes.{Text, all, clean, upper}
+use Rattle.std.proofs.lemmas.Bool.{cond_both, cases_lt, ltb-false, le-ltb}
+use Rattle.text.specs.Bytes.{Text, all, clean}
 use Rattle.text.specs.Cuts.{LineCut, whole, short, stray, cut_line}
-use Rattle.text.proofs.Passing.{and_i, and_l, and_r, clean_by, all_append}
 use Rattle.text_laws.proofs.Lines.{whole_line, short_line, stray_line}
 use Rattle.message.specs.Faults.{flaw, onward}
 use Rattle.message.specs.Sent.{Sent, Found, ended, more, wrong, check_field, check_line, fields_from, fields_in}
 use Rattle.message.specs.declared.fault.Fault.TheVariants.{FirstLine, TooLong}
 use Rattle.message.specs.declared.fault.Flaw.{Flaw}
 use Rattle.message_laws.specs.Breaks.{Breaks}
-use Rattle.request.specs.Canonical.{field_limit, canonical_method, first_line, version}
+use Rattle.request.specs.Canonical.{field_limit, first_line, version}
 use Rattle.request.specs.First.{check_first}
 use Rattle.request.specs.Heads.{window, judged_fields, unended_at, judged_as, on_fields, on_first, judged}
 use Rattle.request.specs.declared.first.First.{First}
@@ -23,7 +22,10 @@ use Rattle.request_laws.proofs.First.{first_read, first_spelled}
 use Rattle.request_laws.proofs.FirstBreaks.{first_breaks, first_refused}
 use Rattle.request_laws.proofs.FieldBreaks.{FieldWrong, field_breaks, long_refused, field_refused}
 use Rattle.request_laws.proofs.LineFaults.{Through, Reads, reads, reads_found, cut_stray}
-use Rattle.request_laws.proofs.HeadFaults.{Refuses, refuses_on, head_refuses, host_judged, framing_judged, body_judged}
+use Rattle.request_laws.proofs.HeadFaults.{Refuses, head_refuses, host_judged, framing_judged, body_judged}
+use Rattle.request_laws.proofs.Leads.{all_front, all_behind}
+use Rattle.request_laws.proofs.Onward.{onward_both}
+use Rattle.request_laws.proofs.WholeHead.{first_clean, fields_begin}
 
 -- THE LINES OF A HEAD
 
@@ -31,32 +33,9 @@ use Rattle.request_laws.proofs.HeadFaults.{Refuses, refuses_on, head_refuses, ho
 abbrev asked : Text → Text → First
 asked m t = record { method = length m; target = length t }
 
--- where its fields begin
-fields_begin : (l rest : Text) → fields_in field_limit (l ++ (13 ∷ 10 ∷ rest)) (length l + 2) ≡ fields_from field_limit (length l + 2) rest
-fields_begin l rest =
-    let w = l ++ (13 ∷ 10 ∷ rest) in
-    let long : length l + 2 ≤ length w = simp length-append (omega arith) in
-    let behind : drop (length l + 2) w ≡ rest = sym (drop-drop 2 (length l) w) ∙ ap (drop 2) (drop_at l (13 ∷ 10 ∷ rest) (length l) refl) in
-    cond-true (leb (length l + 2) (length w)) (fields_from field_limit (length l + 2) (drop (length l + 2) w)) more (le-leb (length l + 2) (length w) long) ∙ ap (fields_from field_limit (length l + 2)) behind
-
--- a part of a clean text is clean
-all_behind : (p : ℕ → Bool) (s t : Text) → T (all p (s ++ t)) → T (all p t)
-unfolding all
-all_behind p [] t h = h
-all_behind p (c ∷ s) t h = all_behind p s t (and_r (p c) (all p (s ++ t)) h)
-
-all_before : (p : ℕ → Bool) (s t : Text) → T (all p (s ++ t)) → T (all p s)
-unfolding all
-all_before p [] t h = tt
-all_before p (c ∷ s) t h = and_i (p c) (all p s) (and_l (p c) (all p (s ++ t)) h) (all_before p s t (and_r (p c) (all p (s ++ t)) h))
-
 target_clean : (m t : Text) → T (clean (first_line m t)) → T (clean t)
 unfolding all
-target_clean m t h = all_before _ t (32 ∷ version) (all_behind _ m (32 ∷ (t ++ (32 ∷ version))) h)
-
-first_clean : (m t : Text) → T (canonical_method m) → T (clean t) → T (clean (first_line m t))
-unfolding all
-first_clean m t method h = all_append _ m (32 ∷ (t ++ (32 ∷ version))) (clean_by upper refl refl m (and_r _ (all upper m) method)) (all_append _ t (32 ∷ version) h tt)
+target_clean m t h = all_front _ t (32 ∷ version) (all_behind _ m (32 ∷ (t ++ (32 ∷ version))) h)
 
 -- where a line more is allowed
 line_allowed : (n at : ℕ) (l : Text) (e : Bool) → n < field_limit → check_line (field_limit - n) at l e ≡ check_field at l e
@@ -109,7 +88,7 @@ module _ (names : List Text) (w : Text) (few : length w ≤ window) where
         let head : HeadIn w m t fs end = record { at = h.0; rest = h.1; front = good_front fs h.0 (13 ∷ 10 ∷ h.1) h.2 h.3; ends = h.4 } in
         let method : take (length m) (first_line m t) ≡ m = take_at m (32 ∷ (t ++ (32 ∷ version))) (length m) refl in
         subst (λ u. Refuses Faulty (onward (judged_fields names u fs end) go)) (sym method)
-        (refuses_on Faulty (judged_fields names m fs end) go (λ v e. inr (MatchResult-at_err (λ _. Unit {0}) (HeadFault names w) v e (head_refuses names w m t fs end head))) (λ _ _. tt))
+        (onward_both (Refuses Faulty) (judged_fields names m fs end) go (λ v e. inr (MatchResult-at_err (λ _. Unit {0}) (HeadFault names w) v e (head_refuses names w m t fs end head))) (λ _ _. tt))
 
     -- a good first line, and what is found behind it
     behind_refuses : Refuses Faulty (on_first names w (whole (first_line m t) behind))
@@ -137,7 +116,7 @@ module _ (names : List Text) (w : Text) (few : length w ≤ window) where
       let h = (stray_line w n).0 e in
       let is : take n w ≡ h.0 = ap (take n) h.4 ∙ take_at h.0 h.1 n h.3 in
       let line : LineIn w (take n w) false = rw is (record { behind = h.1; ends = strayEnd h.5; tidy = h.2; text = h.4 }) in
-      refuses_on Faulty (check_first (take n w) false) (λ f. Ok None) (first_refuses (take n w) false line) (λ _ _. tt)
+      onward_both (Refuses Faulty) (check_first (take n w) false) (λ f. Ok None) (first_refuses (take n w) false line) (λ _ _. tt)
   cut_refuses (whole l rest) e = let h = (whole_line w l rest).0 e in whole_refuses l rest h.0 h.1 (check_first l true) refl
 
   pub judged_refuses : Refuses Faulty (judged names w)

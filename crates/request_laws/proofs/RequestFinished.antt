@@ -29,7 +29,7 @@ pub record Lies (head : Head) (h : Text) : Type 0 where
 -- reading is over
 abbrev pub Over : Reading → Type 0
 Over (InHead filled) = ⊥
-Over (InBody head filled due) = ⊥
+Over (InBody b) = ⊥
 Over (Whole head end) = Unit {0}
 Over (Refused w) = Unit {0}
 

@@ -1,8 +1,6 @@
 -- A request is let pass exactly where the grammar holds of the first bytes.
-use Rattle.std.proofs.Common.{◌≡◌, ℕ, zero, suc, ◌+◌, ◌-◌, ◌≤◌, leb, List, [], ◌∷◌, ◌++◌, map, length, take, drop, Some, None, Ok, Err, Option, Result, sym, refl, ap, ◌∙◌, subst, ap₂, append_assoc, arith}
-use native.Mathlib.Nat.{sub-zero}
-use native.Mathlib.Numerals.{unary_clauses}
-use Rattle.std.proofs.lemmas.List.{length-append, length-take, take_at, drop_at, drop-drop, take-append-drop}
+use Rattle.std.proofs.Common.{◌≡◌, ℕ, ◌+◌, ◌-◌, ◌≤◌, leb, List, [], ◌∷◌, ◌++◌, map, length, take, drop, Some, None, Ok, Err, Option, Result, sym, refl, ap, ◌∙◌, subst, ap₂, append_assoc, arith}
+use Rattle.std.proofs.lemmas.List.{take_all, length-append, length-map, length-take, take_at, drop_at, drop-drop}
 use Rattle.std.proofs.lemmas.Bool.{cond_both, cond-true, le-leb, leb-true}
 use Rattle.text.specs.Bytes.{Text}
 use Rattle.message.specs.Fields.{Field}
@@ -17,14 +15,19 @@ use Rattle.request.specs.Targets.{check_target, undone}
 use Rattle.request.specs.declared.head.Head.{Head}
 use Rattle.request.specs.declared.head.Judged.{Judged}
 use Rattle.request.specs.Writing.{head_length}
+use Rattle.request_laws.specs.Faults.{AsFields}
 use Rattle.request_laws.specs.Grammar.{Spelled}
 use Rattle.request_laws.specs.Laws.{ReadIffSpelled}
 use Rattle.request_laws.specs.Lines.{LinesSpelled}
 use Rattle.request_laws.specs.Targets.{TargetSpelled}
 use Rattle.request_laws.specs.Outcome.{whole, on_fields, on_target, judged_whole, on_due, on_head, outcome}
-use Rattle.request_laws.proofs.Targets.{target_read, target_checks, target_good}
-use Rattle.request_laws.proofs.WholeHead.{headed, headed_on, headed_long, head_of, HeadAs, head_read, head_spelled, fields_there}
+use Rattle.request_laws.proofs.Targets.{target_checks, target_good}
+use Rattle.request_laws.proofs.WholeHead.{headed, headed_on, headed_all, headed_long, head_of, head_spelled, fields_there}
 use Rattle.request_laws.proofs.BodyRead.{BodyIs, body_read, body_spelled}
+use Rattle.request_laws.proofs.Leads.{take_joined}
+use Rattle.request_laws.proofs.LineFaults.{lines_spelled}
+use Rattle.request_laws.proofs.PlacedHead.{Placed, head_placed}
+use Rattle.request_laws.proofs.TargetFaults.{target_read}
 
 -- the parts of a head stand where they were found
 headed_parts : (m t lines rest : Text) → headed m t lines rest ≡ m ++ (32 ∷ (t ++ (32 ∷ (version ++ (13 ∷ 10 ∷ (lines ++ (13 ∷ 10 ∷ rest)))))))
@@ -63,14 +66,14 @@ target_judged m t lines k body = ap (λ u. on_target (head_of m t lines k) (head
 -- a request that is let pass has a good target
 target_passed : (head : Head) (h body : Text) (k : ℕ) (q : Req) (r : Result Unit Flaw) → on_target head h body r ≡ passed k q → (r ≡ Ok tt) × (on_fields head h body (fields_in field_limit h head.fields) ≡ passed k q)
 target_passed head h body k q (Ok u) e = (refl, e)
-target_passed head h body k q (Err w) e = let z : ◌≡◌ {A = ℕ} 0 1 = cc in absurd (omega arith)
+target_passed head h body k q (Err w) e = cc
 
 -- and a head that is not too long
 limited_passed : (j len k : ℕ) (p q : Req) → limited j len p ≡ passed k q → (j ≡ k) × (p ≡ q) × (head_length p ≤ head_limit)
 limited_passed j len k p q =
     cond_both (leb (head_length p) head_limit) _ _ (λ f. f ≡ passed k q → (j ≡ k) × (p ≡ q) × (head_length p ≤ head_limit))
     (λ h e. (cc, cc, leb-true (head_length p) head_limit h))
-    (λ h e. let z : ◌≡◌ {A = ℕ} 0 1 = cc in absurd (omega arith))
+    (λ h e. cc)
 
 -- a head that is let pass, in the window, and a body behind it
 abbrev Starts : List Text → Text → ℕ → Req → ℕ → Type 0
@@ -84,30 +87,33 @@ within m t lines rest w n h e =
     let d = ap length e in
     omega arith
 
-spelled_so : (names : List Text) (w : Text) (j : Judged) (a : HeadAs names w j) (k : ℕ) (q : Req) (tail : Text) (n : ℕ) →
+spelled_so : (names : List Text) (w : Text) (j : Judged) (a : Placed names w j) (k : ℕ) (q : Req) (tail : Text) (n : ℕ) →
     length w ≤ window →
-    BodyIs a.method a.fields (head_of a.method a.target a.lines a.server) (headed a.method a.target a.lines []) tail (passed k q) n →
+    BodyIs a.method (AsFields a.fields) (head_of a.method a.target a.lines a.server) (headed a.method a.target a.lines []) tail (passed k q) n →
     Starts names (headed a.method a.target a.lines tail) k q n
 spelled_so names w j a k q tail n small b =
     let m = a.method in
     let t = a.target in
     let lines = a.lines in
+    let fs = AsFields a.fields in
+    let good = lines_spelled a.placed in
+    let few : length fs ≤ field_limit = simp length-map a.few in
     let h = headed m t lines [] in
     let head = head_of m t lines a.server in
     let p = target_passed head h b.body k q (check_target t) (sym (target_judged m t lines a.server b.body) ∙ b.is) in
-    let l = limited_passed a.server (length h) k (meant m t a.fields b.body) q (sym (fields_judged m t lines a.server a.fields b.body a.lines_good a.few) ∙ p.1) in
-    let g = target_read t a.slash p.0 in
-    let all : Spelled names (headed m t lines b.after) a.server (meant m t a.fields b.body) = record {
+    let l = limited_passed a.server (length h) k (meant m t fs b.body) q (sym (fields_judged m t lines a.server fs b.body good few) ∙ p.1) in
+    let g = target_read t a.ask.0.1 p.0 in
+    let all : Spelled names (headed m t lines b.after) a.server (meant m t fs b.body) = record {
       target = t;
-      fields = a.fields;
+      fields = fs;
       lines = lines;
       after = b.after;
       place = g.0;
-      method_good = a.method_good;
+      method_good = a.ask.0.0;
       target_good = g.1;
       target_is = (target_checks t g.0 g.1).1;
-      lines_good = a.lines_good;
-      few = a.few;
+      lines_good = good;
+      few = few;
       short = within m t lines a.rest w window small a.text;
       host_good = a.host;
       kept = refl;
@@ -125,10 +131,10 @@ spelled_so names w j a k q tail n small b =
 
 head_whole : {C : Type 0} (s : Text) (f : Finding) (n : ℕ) (r : Result (Option Judged) Flaw) → ((j : Judged) → r ≡ Ok (Some j) → on_due j.head s j.due ≡ whole f n → C) → on_head s r ≡ whole f n → C
 head_whole s f n (Ok (Some j)) go e = go j refl e
-head_whole s f n (Ok None) go e = let z : ◌≡◌ {A = ℕ} 0 1 = cc in absurd (omega arith)
-head_whole s f n (Err w) go e = let z : ◌≡◌ {A = ℕ} 0 1 = cc in absurd (omega arith)
+head_whole s f n (Ok None) go e = cc
+head_whole s f n (Err w) go e = cc
 
-starts : (names : List Text) (s : Text) (k : ℕ) (q : Req) (n : ℕ) (j : Judged) → HeadAs names (take window s) j → on_due j.head s j.due ≡ whole (passed k q) n → Starts names s k q n
+starts : (names : List Text) (s : Text) (k : ℕ) (q : Req) (n : ℕ) (j : Judged) → Placed names (take window s) j → on_due j.head s j.due ≡ whole (passed k q) n → Starts names s k q n
 starts names s k q n j a e =
     let m = a.method in
     let t = a.target in
@@ -136,22 +142,16 @@ starts names s k q n j a e =
     let h = headed m t lines [] in
     let tail = a.rest ++ drop window s in
     let head = head_of m t lines a.server in
-    let all : s ≡ headed m t lines tail = sym (take-append-drop window s) ∙ ap (λ u. u ++ drop window s) a.text ∙ headed_on m t lines a.rest (drop window s) in
+    let all = headed_all s m t lines a.rest a.text in
     let due : on_due head s a.due ≡ whole (passed k q) n = ap (λ i. on_due i.head s i.due) (sym a.is) ∙ e in
-    let there : on_due head (h ++ tail) a.due ≡ whole (passed k q) n = ap (λ u. on_due head u a.due) (headed_on m t lines [] tail ∙ sym all) ∙ due in
+    let there : on_due head (h ++ tail) a.due ≡ whole (passed k q) n = ap (λ u. on_due head u a.due) (sym all) ∙ due in
     let small : length (take window s) ≤ window = rw length-take (omega arith) in
-    let b = body_read m a.fields head h tail a.due (passed k q) n refl a.due_good there in
-    subst (λ u. Starts names u k q n) (sym all) (spelled_so names (take window s) j a k q tail n small b)
+    let b = body_read m (AsFields a.fields) head h tail a.due (passed k q) n refl a.due_good there in
+    subst (λ u. Starts names u k q n) (sym (all ∙ headed_on m t lines [] tail)) (spelled_so names (take window s) j a k q tail n small b)
 
 -- what is let pass is spelled by the grammar
 pub read_spelled : (names : List Text) (s : Text) (k : ℕ) (q : Req) (n : ℕ) → outcome names s ≡ whole (passed k q) n → Starts names s k q n
-read_spelled names s k q n = head_whole s (passed k q) n (judged names (take window s)) (λ j good e. starts names s k q n j (head_read names (take window s) j good) e)
-
--- the first n bytes of a text whose front has no more than that
-take_past : (n : ℕ) (xs ys : Text) → length xs ≤ n → take n (xs ++ ys) ≡ xs ++ take (n - length xs) ys
-take_past n [] ys h = rw sub-zero refl
-take_past zero (x ∷ xs) ys h = absurd (omega arith)
-take_past (suc n) (x ∷ xs) ys h = simp unary_clauses (ap (λ u. x ∷ u) (take_past n xs ys (omega arith)))
+read_spelled names s k q n = head_whole s (passed k q) n (judged names (take window s)) (λ j good e. starts names s k q n j (head_placed names (take window s) j good) e)
 
 -- what is spelled by the grammar is judged good
 judged_good : (t lines : Text) (k : ℕ) (fs : List Field) (p : Place) (q : Req) → TargetSpelled t p → LinesSpelled lines fs → length fs ≤ field_limit →
@@ -181,7 +181,7 @@ spelled_read names t rest k q s =
     let head = head_of m s.target lines k in
     let all : t ++ rest ≡ h ++ tail = ap (λ u. u ++ rest) s.text ∙ headed_on m s.target lines s.after rest ∙ sym (headed_on m s.target lines [] tail) in
     let fits : length h ≤ window = fits_in_so m s.target lines window s.short in
-    let front : take window (h ++ tail) ≡ headed m s.target lines (take (window - length h) tail) = take_past window h tail fits ∙ headed_on m s.target lines [] (take (window - length h) tail) in
+    let front : take window (h ++ tail) ≡ headed m s.target lines (take (window - length h) tail) = take_joined window h tail ∙ ap (λ u. u ++ take (window - length h) tail) (take_all window h fits) ∙ headed_on m s.target lines [] (take (window - length h) tail) in
     let g = target_good s.target s.place s.target_good in
     let b = body_spelled m s.fields head h s.after rest q.body refl s.body_good s.body_short in
     let judged_so_so = head_spelled names m s.target lines (take (window - length h) tail) s.fields k b.0 s.method_good g.1 g.2 g.3 s.lines_good s.few s.host_good b.1 in

@@ -13,11 +13,12 @@ use Rattle.text.proofs.Passing.{is_true, is_false, and_i, and_l, and_r}
 use Rattle.text_laws.proofs.Digits.{read_back}
 use Rattle.message.specs.Fields.{Field, content_length, canonical_fields}
 use Rattle.message.specs.Hops.{canonical_of, kept_of}
+use Rattle.message.proofs.Hopping.{fewer}
 use Rattle.request.specs.Canonical.{Req, carries_body, body_limit, length_field, sent_fields}
 use Rattle.request_laws.specs.Lines.{Hostless, HostSpelled, host_names}
 use Rattle.request_laws.specs.Grammar.{BodySpelled, none, sized, chunked}
 use Rattle.request_laws.proofs.Fits.{Fit, all_fit, length_fit}
-use Rattle.request_laws.proofs.KeptAgain.{fewer, kept_again, kept_again_length, canonical_unframing, fewer_by_length, fewer_by_encoding, kept_host, kept_named}
+use Rattle.request_laws.proofs.KeptAgain.{kept_again, kept_again_length, canonical_unframing, fewer_by_length, fewer_by_encoding, kept_host, kept_named}
 
 -- the fields as they are sent, in either case
 pub by_body : (P : List Field → Type 0) (q : Req) → (T (carries_body q.method) → P (q.fields ++ (length_field q.body ∷ []))) → (T (not (carries_body q.method)) → P q.fields) → P (sent_fields q)

@@ -1,10 +1,13 @@
--- Fields as sent among others: the first that is not of a kind, the only one, and two of them.
-use Rattle.std.proofs.Common.{List, [], ◌∷◌, refl, ap}
+-- Fields as sent among others: the first that is not of a kind, the only one, with its places and without, and two of them.
+use Rattle.std.proofs.Common.{◌≡◌, List, [], ◌∷◌, sym, refl, ap, ◌∙◌, subst}
+use mathlib.Core.List.{map-append}
 use Rattle.std.specs.List.{AllByRecursion}
 use Rattle.message.specs.Fields.{Field}
 use Rattle.message.specs.Hops.{field_of}
 use Rattle.message.specs.Sent.{Sent}
 use Rattle.request_laws.specs.Faults.{AsFields, Twice, FirstOther, OnlySent}
+use Rattle.request_laws.specs.Lines.{Only}
+use Rattle.request_laws.proofs.Among.{origin}
 
 module _ (P : Field → Type 0) where
   pub other_here : (f : Sent) (fs : List Sent) → FirstOther P (f ∷ fs) f
@@ -25,3 +28,13 @@ module _ (P : Field → Type 0) where
 
   pub sent_later : (g f : Sent) (fs : List Sent) → P (field_of g) → OnlySent P fs f → OnlySent P (g ∷ fs) f
   sent_later g f fs h o = record { before = g ∷ o.before; behind = o.behind; others = ((h, o.others.0), o.others.1); joined = ap (λ u. g ∷ u) o.joined }
+
+  -- the only field of a kind, with its places and without
+  pub only_sent : (fs : List Sent) (f : Field) → Only P (AsFields fs) f → (g : Sent) × OnlySent P fs g × (field_of g ≡ f)
+  only_sent fs f o =
+      let g = origin field_of fs o.before o.behind f o.joined in
+      (g.here, record { before = g.front; behind = g.back; others = (subst (AllByRecursion P) (sym g.fronts) o.others.0, subst (AllByRecursion P) (sym g.backs) o.others.1); joined = g.joined }, g.is)
+
+  pub only_field : (fs : List Sent) (f : Sent) → OnlySent P fs f → Only P (AsFields fs) (field_of f)
+  only_field fs f o =
+      record { before = AsFields o.before; behind = AsFields o.behind; others = o.others; joined = ap AsFields o.joined ∙ map-append field_of o.before (f ∷ o.behind) }

@@ -55,7 +55,7 @@ pub record Body (names : List Text) (s : Text) (head : Head) (filled : ℕ) (sta
 -- more is wanted
 abbrev pub Stands : List Text → Text → Reading → Text → Type 0
 Stands names s (InHead filled) memory = (length memory ≡ memory_size) × (filled ≡ length s) × (take filled memory ≡ s) × (judged names s ≡ Ok None)
-Stands names s (InBody head filled due) memory = (start : Due) × Body names s head filled start due memory
+Stands names s (InBody b) memory = (start : Due) × Body names s b.head b.filled start b.due memory
 Stands names s (Whole head end) memory = ⊥
 Stands names s (Refused w) memory = ⊥
 
@@ -98,7 +98,7 @@ module _ (names : List Text) (s : Text) (head : Head) (start : Due) (judges : ju
   }
 
   pub still : (piece : Text) → judged names (take window (s ++ piece)) ≡ Ok (Some (judged_so head start))
-  still piece = window_stays names s piece (λ e. let z : ◌≡◌ {A = ℕ} 0 1 = cc in omega arith) ∙ judges
+  still piece = window_stays names s piece (λ e. cc) ∙ judges
 
   pub outcome_is : (piece : Text) → outcome names (s ++ piece) ≡ on_due head (s ++ piece) start
   outcome_is piece = ap (on_head (s ++ piece)) (still piece)

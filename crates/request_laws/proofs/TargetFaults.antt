@@ -1,5 +1,5 @@
--- Every target that begins with a slash is in the grammar or has a fault, and a fault is found where it stands.
-use Rattle.std.proofs.Common.{◌≡◌, ℕ, ◌+◌, ◌<◌, not, T, eqb, ltb, ◌⊎◌, List, [], ◌∷◌, ◌++◌, length, drop, Some, None, Err, refl, ap, ◌∙◌, subst, inl, inr, append-nil, arith}
+-- Every target that begins with a slash is in the grammar or has a fault, and a fault is found where it stands; so a target that passes is in the grammar.
+use Rattle.std.proofs.Common.{◌≡◌, ℕ, ◌+◌, ◌<◌, not, T, eqb, ltb, ◌⊎◌, List, [], ◌∷◌, ◌++◌, length, drop, Some, None, Ok, Err, refl, ap, ◌∙◌, subst, inl, inr, append-nil, arith}
 use Rattle.std.specs.List.{prefix_len}
 use Rattle.std.proofs.lemmas.List.{length-append}
 use Rattle.std.proofs.lemmas.Bool.{cond-true, eqb-true, not-false, lt-ltb}
@@ -11,17 +11,17 @@ use Rattle.message.specs.Faults.{flaw}
 use Rattle.message.specs.declared.fault.Fault.TheVariants.{PathByte, PathPart, QueryByte}
 use Rattle.message.specs.declared.fault.Flaw.{Flaw}
 use Rattle.request.specs.Canonical.{begins_with_slash}
-use Rattle.request.specs.Targets.{path_of, query_of, tokens, bad_query, check_target}
+use Rattle.request.specs.Targets.{path_of, query_of, bad_query, check_target}
 use Rattle.request.specs.Places.{Piece, Place}
 use Rattle.request_laws.specs.Targets as grammar
 use Rattle.request_laws.specs.Targets.{PathSpelled, TargetSpelled}
 use Rattle.request_laws.specs.Faults as faults
 use Rattle.request_laws.specs.Faults.{TokensSpelled, PathIn, TargetFault}
 use Rattle.request_laws.specs.FaultLaws.{TargetsRefused}
-use Rattle.request_laws.proofs.Tokens.{no_bad, all_good_so}
-use Rattle.request_laws.proofs.Paths.{path_good, path_fine}
+use Rattle.request_laws.specs.TargetLaws.{TargetsRead}
+use Rattle.request_laws.proofs.Paths.{path_fine}
 use Rattle.request_laws.proofs.Targets.{not_mark, cut_mark, slash_front, target_checks}
-use Rattle.request_laws.proofs.TokenFaults.{tokens_passed, tokens_good, no_token, tokens_cut}
+use Rattle.request_laws.proofs.TokenFaults.{path_tokens, tokens_passed, tokens_good, no_token, tokens_cut}
 use Rattle.request_laws.proofs.PartFaults.{path_found, path_cut}
 
 -- a path, and what stands behind it, are what the target is cut into
@@ -59,7 +59,7 @@ fault_found t v (faults.part front p behind rest {ps} {pieces} i n s m q h e) =
     rw (c.front, tokens_good 0 path s, path_found front ps p pieces behind m q h e n) (ap (λ k. Err (flaw PathPart k)) (omega arith))
 fault_found t v (faults.query path good behind b {ps} i s g h) =
     let c = cut_as t path (63 ∷ (good ++ (b ∷ behind))) i in
-    rw (c.front, c.back, c.mark, no_bad 0 (tokens path) (path_good path ps s), path_fine path ps s, query_found good b behind g h) refl
+    rw (c.front, c.back, c.mark, tokens_good 0 path (path_tokens path ps s), path_fine path ps s, query_found good b behind g h) refl
 
 -- a target is in the grammar, or it has a fault
 abbrev pub Judged : Text → Type 0
@@ -79,7 +79,7 @@ rest_cut t f rest ps i s =
 -- the same by its path: the tokens, then the parts, then what is behind it
 parts_cut : (t f rest : Text) → PathIn t f rest → T (begins_with_slash f) → TokensSpelled f → Judged t
 parts_cut t f rest i b m =
-    elim (path_cut f b (all_good_so 0 (tokens f) (tokens_good 0 f m))) [
+    elim (path_cut f b m) [
       | inl (ps, s) ↦ rest_cut t f rest ps i s
       | inr (w, n) ↦ inr (flaw PathPart (length w.front + 1 + length w.bad), faults.part w.front w.bad w.behind rest (rw w.joined at i) n (rw w.joined at m) w.parts w.part w.wrong w.ends)
     ]
@@ -100,9 +100,20 @@ target_cut t b =
 
 -- so what is found is the fault that it has
 refused : (t : Text) (v : Flaw) → check_target t ≡ Err v → Judged t → TargetFault t v
-refused t v e (inl (p, s)) = let f = (target_checks t p s).0 in let z : ◌≡◌ {A = ℕ} 0 1 = cc in absurd (omega arith)
+refused t v e (inl (p, s)) = let f = (target_checks t p s).0 in cc
 refused t v e (inr (w, s)) = let f = fault_found t w s in let is : w ≡ v = cc in subst (TargetFault t) is s
 
--- the law
+-- and nothing is found only of one that is in the grammar
+passed : (t : Text) → check_target t ≡ Ok tt → Judged t → (p : Place) × TargetSpelled t p
+passed t e (inl s) = s
+passed t e (inr (v, s)) = let f = fault_found t v s in cc
+
+pub target_read : (t : Text) → T (begins_with_slash t) → check_target t ≡ Ok tt → (p : Place) × TargetSpelled t p
+target_read t b e = passed t e (target_cut t b)
+
+-- the laws
+pub targets_read : TargetsRead
+targets_read t b = (target_read t b, λ s. (target_checks t s.0 s.1).0)
+
 pub targets_refused : TargetsRefused
 targets_refused t v b = (λ e. refused t v e (target_cut t b), fault_found t v)

@@ -2,9 +2,10 @@
 use Rattle.std.proofs.Common.{◌≡◌, ℕ, ◌+◌, ◌-◌, ◌≤◌, eqb, [], ◌∷◌, length, Some, None, Option, arith}
 use Rattle.std.proofs.lemmas.List.{length-append, length-take, length-drop}
 use Rattle.std.proofs.lemmas.Bool.{cond_both}
+use Rattle.text.specs.Numerals.{hex_pair}
 use Rattle.text.specs.Bytes.{Text, plain_byte}
 use Rattle.text.specs.Marks.{before}
-use Rattle.request.specs.Targets.{Stand, free, percent, half, tokens_at, code_value, capital, spell_code, spelled, path_of, query_of, marked, undone}
+use Rattle.request.specs.Targets.{Stand, free, percent, half, tokens_at, capital, spell_code, spelled, path_of, query_of, marked, undone}
 use Rattle.request.specs.declared.target.Token.TheVariants.{Byte}
 
 code_short : (a b : ℕ) (o : Option ℕ) → length (spell_code a b o) ≤ 3
@@ -29,7 +30,7 @@ path_short percent (c ∷ cs) = let next = path_short (half c) cs in omega arith
 path_short (half a) [] = omega arith
 path_short (half a) (c ∷ cs) =
     let next = path_short free cs in
-    let code = code_short a c (code_value a c) in
+    let code = code_short a c (hex_pair a c) in
     simp length-append (omega arith)
 
 query_short : (q : Text) (n : ℕ) → length q ≡ n - 1 → length (marked q) ≤ n

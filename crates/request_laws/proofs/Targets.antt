@@ -1,24 +1,21 @@
--- Targets are read by the grammar, mean the places that it says, and are written for good places.
-use Rattle.std.proofs.Common.{◌≡◌, ℕ, ◌+◌, ◌<◌, ◌≤◌, Bool, not, ◌&&◌, T, eqb, ltb, List, [], ◌∷◌, ◌++◌, length, drop, Some, None, Ok, Option, Result, sym, refl, ap, ◌∙◌, subst, append-nil, arith}
+-- Targets in the grammar pass the tests, mean the places that it says, and are written for good places.
+use Rattle.std.proofs.Common.{◌≡◌, ℕ, ◌+◌, ◌≤◌, Bool, not, ◌&&◌, T, eqb, ltb, List, [], ◌∷◌, ◌++◌, length, drop, Some, None, Ok, sym, refl, ap, ◌∙◌, subst, append-nil, arith}
 use Rattle.std.specs.List.{prefix_len}
-use Rattle.std.proofs.lemmas.List.{take_at, drop_at, drop-drop, length-append}
-use Rattle.std.proofs.lemmas.Bool.{cond-true, cond-false, eqb-true, not-false, lt-ltb, le-ltb}
+use Rattle.std.proofs.lemmas.List.{take_at, drop_at, drop-drop}
+use Rattle.std.proofs.lemmas.Bool.{cond-false, le-ltb}
 use Rattle.text.specs.Bytes.{Text, plain_byte, query_byte, visible, all, nonempty, clean}
 use Rattle.text.specs.Marks.{before}
-use Rattle.text.proofs.Passing.{is_false, and_i, and_l, and_r, differs, all_weaker, all_append, clean_by}
-use Rattle.text_laws.proofs.Fronts.{stops, split, leading_at}
-use Rattle.message.specs.declared.fault.Fault.{Fault}
-use Rattle.message.specs.declared.fault.Fault.TheVariants.{PathByte, PathPart, QueryByte}
-use Rattle.message.specs.declared.fault.Flaw.{Flaw}
+use Rattle.text.proofs.Passing.{and_i, and_l, and_r, differs, all_weaker, all_append, clean_by}
+use Rattle.text_laws.proofs.Fronts.{stops, leading_at}
 use Rattle.request.specs.Canonical.{begins_with_slash, canonical_target}
-use Rattle.request.specs.Targets.{path_of, query_of, tokens, capital, bad_token, bad_part_of, bad_query, or_else, check_target, marked, undone}
+use Rattle.request.specs.Targets.{path_of, query_of, capital, bad_query, check_target, marked, undone}
 use Rattle.request.specs.Places.{Piece, Plain, Coded, last_is_dot, good_piece, good_pieces, good_part, good_parts, part_text, parts_text, or_root, with_query, Place, good_place, target_of}
 use Rattle.request_laws.specs.Targets as grammar
 use Rattle.request_laws.specs.Targets.{PartSpelled, PartsSpelled, PathSpelled, TargetSpelled}
-use Rattle.request_laws.specs.TargetLaws.{TargetsRead, TargetsMean, PlacesAgain}
+use Rattle.request_laws.specs.TargetLaws.{TargetsMean, PlacesAgain}
 use Rattle.request_laws.proofs.Codes.{path_byte, path_visible, Kept, kept}
-use Rattle.request_laws.proofs.Tokens.{all_good, no_bad, all_good_so}
-use Rattle.request_laws.proofs.Paths.{path_read, path_good, path_fine, path_undone, path_slash, path_bytes}
+use Rattle.request_laws.proofs.Paths.{path_fine, path_undone, path_slash, path_bytes}
+use Rattle.request_laws.proofs.TokenFaults.{tokens_good, path_tokens}
 
 -- no question mark
 abbrev pub not_mark : ℕ → Bool
@@ -36,65 +33,19 @@ cut_none f g = subst (λ t. (path_of t ≡ f) × (query_of t ≡ [])) (append-ni
 path_close : (t : Text) (ps : List (List Piece)) → PathSpelled t ps → T (all not_mark t)
 path_close t ps s = all_weaker path_byte not_mark (λ c h. rw (differs path_byte 63 c refl h) tt) t (path_bytes t ps s)
 
--- a query, and the test of its bytes
-front_passes : (f r : Text) → T (all query_byte f) → T (stops query_byte r) → bad_query (f ++ r) ≡ None → T (all query_byte (f ++ r))
-front_passes f [] g h e = rw (append-nil f) g
-front_passes f (c ∷ r) g h e =
-    let q = f ++ (c ∷ r) in
-    let n = leading_at query_byte f (c ∷ r) g h in
-    let less : prefix_len query_byte q < length q = simp length-append (omega arith) in
-    let bad = cond-true (ltb (prefix_len query_byte q) (length q)) (Some (prefix_len query_byte q)) None (lt-ltb (prefix_len query_byte q) (length q) less) in
-    let z : ◌≡◌ {A = ℕ} 0 1 = cc in
-    absurd (omega arith)
-
-query_passes : (q : Text) → bad_query q ≡ None → T (all query_byte q)
-query_passes q = let s = split query_byte q in subst (λ t. bad_query t ≡ None → T (all query_byte t)) (sym s.joined) (front_passes s.front s.rest s.passes s.ends)
-
+-- a query whose bytes all pass
 query_good : (q : Text) → T (all query_byte q) → bad_query q ≡ None
 query_good q h =
     let n : prefix_len query_byte q ≡ length q = subst (λ t. prefix_len query_byte t ≡ length q) (append-nil q) (leading_at query_byte q [] h tt) in
     let not-less : length q ≤ prefix_len query_byte q = omega arith in
     cond-false (ltb (prefix_len query_byte q) (length q)) (Some (prefix_len query_byte q)) None (le-ltb (prefix_len query_byte q) (length q) not-less)
 
--- nothing is wrong
-passed : (f : Fault) (at : ℕ) (o : Option ℕ) (next : Result Unit Flaw) → or_else f at o next ≡ Ok tt → (o ≡ None) × (next ≡ Ok tt)
-passed f at None next e = (refl, e)
-passed f at (Some n) next e = let z : ◌≡◌ {A = ℕ} 0 1 = cc in absurd (omega arith)
-
-record Passes (f q : Text) : Type 0 where
-  bytes : T (all_good (tokens f))
-  whole : bad_part_of f ≡ None
-  behind : T (all query_byte q)
-
-passes : (t f q : Text) → path_of t ≡ f → query_of t ≡ q → check_target t ≡ Ok tt → Passes f q
-passes t f q a b e =
-    let x = passed PathByte 0 (bad_token 0 (tokens (path_of t))) _ e in
-    let y = passed PathPart 0 (bad_part_of (path_of t)) _ x.1 in
-    let z = passed QueryByte (before 63 t + 1) (bad_query (query_of t)) _ y.1 in
-    record { bytes = all_good_so 0 (tokens f) (rw a at x.0); whole = rw a at y.0; behind = query_passes q (rw b at z.0) }
-
--- a target that is checked has a place
+-- a path in front of a target that begins with a slash begins with one
 pub slash_front : (f r : Text) → T (stops not_mark r) → T (begins_with_slash (f ++ r)) → T (begins_with_slash f)
 unfolding begins_with_slash
 slash_front [] [] h b = b
 slash_front [] (c ∷ r) h b = absurd (rw (differs (λ x. eqb x 47) 63 c refl b) at h)
 slash_front (c ∷ f) r h b = b
-
-with_query_so : (f r : Text) → T (stops not_mark r) → (ps : List (List Piece)) → PathSpelled f ps → T (all query_byte (drop 1 r)) → (p : Place) × TargetSpelled (f ++ r) p
-with_query_so f [] h ps s q = (record { parts = ps; query = [] }, rw (append-nil f) (grammar.path s))
-with_query_so f (c ∷ r) h ps s q = (record { parts = ps; query = r }, rw (eqb-true c 63 (not-false (eqb c 63) (is_false (not_mark c) h))) (grammar.query f r s q))
-
-front_read : (f r : Text) → T (all not_mark f) → T (stops not_mark r) → T (begins_with_slash (f ++ r)) → check_target (f ++ r) ≡ Ok tt → (p : Place) × TargetSpelled (f ++ r) p
-front_read f r g h b e =
-    let t = cut_mark f r g h in
-    let k = passes (f ++ r) f (drop 1 r) t.0 t.1 e in
-    let s = path_read f (slash_front f r h b) k.bytes k.whole in
-    with_query_so f r h s.0 s.1 k.behind
-
-pub target_read : (t : Text) → T (begins_with_slash t) → check_target t ≡ Ok tt → (p : Place) × TargetSpelled t p
-target_read t =
-    let s = split not_mark t in
-    subst (λ u. T (begins_with_slash u) → check_target u ≡ Ok tt → (p : Place) × TargetSpelled u p) (sym s.joined) (front_read s.front s.rest s.passes s.ends)
 
 -- a target with a place is checked, and in canonical form it is what is written for that place
 with_marked : (f q : Text) → f ++ marked q ≡ with_query f q
@@ -104,7 +55,7 @@ with_marked f (c ∷ q) = refl
 
 checks : (t f q : Text) (ps : List (List Piece)) → path_of t ≡ f → query_of t ≡ q → PathSpelled f ps → T (all query_byte q) → (check_target t ≡ Ok tt) × (undone t ≡ with_query (or_root (parts_text ps)) q)
 checks t f q ps a b s h = (
-  rw (a, b, no_bad 0 (tokens f) (path_good f ps s), path_fine f ps s, query_good q h) refl,
+  rw (a, b, tokens_good 0 f (path_tokens f ps s), path_fine f ps s, query_good q h) refl,
   rw (a, b, path_undone f ps s) (with_marked (or_root (parts_text ps)) q),
 )
 
@@ -186,9 +137,6 @@ place_visible p h =
     and_i (begins_with_slash (target_of p)) (all visible (target_of p)) (target_slash (target_of p) p s) (target_seen (target_of p) p s)
 
 -- the laws
-pub targets_read : TargetsRead
-targets_read t b = (target_read t b, λ s. (target_checks t s.0 s.1).0)
-
 pub targets_mean : TargetsMean
 targets_mean t p s = (target_checks t p s).1
 

@@ -1,5 +1,5 @@
 -- What one call with all the bytes hands out, in words of the grammar.
-use Rattle.std.proofs.Common.{◌≡◌, ℕ, ◌^◌, ◌<◌, leb, List, [], ◌∷◌, length, Ok, Err, Result, sym, refl, ap, ◌∙◌, subst, ap₂, inr, append-nil, arith}
+use Rattle.std.proofs.Common.{◌≡◌, ℕ, ◌^◌, ◌<◌, leb, List, [], ◌∷◌, length, Ok, Err, Result, sym, refl, ap, ◌∙◌, subst, ap₂, inr, append-nil}
 use Rattle.std.proofs.lemmas.Bool.{cond_both, and_parts, eqb-true, leb-false}
 use Rattle.text.specs.Bytes.{Text}
 use Rattle.message.specs.declared.fault.Unfit.{Unfit}
@@ -13,13 +13,12 @@ use Rattle.request_laws.specs.Once.{Begins, Told, Explained}
 use Rattle.request_laws.specs.Outcome.{Outcome, wants, broken, whole, outcome}
 use Rattle.request_laws.proofs.Feeding.{cut_free}
 use Rattle.request_laws.proofs.FirstFaults.{fault_is_first}
-use Rattle.request_laws.proofs.Refused.{refused}
 use Rattle.request_laws.proofs.Requests.{read_iff_spelled}
 
 -- only of a whole request is it found that it passes
 passed_whole : (o : Outcome) (k : ℕ) (q : Req) → finding_of o ≡ passed k q → (n : ℕ) × (o ≡ whole (passed k q) n)
-passed_whole wants k q e = let z : ◌≡◌ {A = ℕ} 0 1 = cc in absurd (omega arith)
-passed_whole (broken w) k q e = let z : ◌≡◌ {A = ℕ} 0 1 = cc in absurd (omega arith)
+passed_whole wants k q e = cc
+passed_whole (broken w) k q e = cc
 passed_whole (whole f n) k q e = (n, ap (λ g. whole g n) e)
 
 -- bytes that begin with a request pass it
@@ -32,10 +31,10 @@ found_told names s (passed k q) e =
     let w = passed_whole (outcome names s) k q e in
     let p = (read_iff_spelled names s k q w.0).0 w.1 in
     (p.0, p.1, p.2, p.4)
-found_told names s (fault v) e = (fault_is_first refused names s v).0 e
+found_told names s (fault v) e = (fault_is_first names s v).0 e
 found_told names s more e = (
-  λ k q b. let p = begins_passed names s k q b in let z : ◌≡◌ {A = ℕ} 0 1 = cc in omega arith,
-  λ v f. let p = (fault_is_first refused names s v).1 f in let z : ◌≡◌ {A = ℕ} 0 1 = cc in omega arith,
+  λ k q b. let p = begins_passed names s k q b in cc,
+  λ v f. let p = (fault_is_first names s v).1 f in cc,
 )
 
 -- a memory that was not refused has the size that is asked for
@@ -43,7 +42,7 @@ fit_memory : (names : List Text) (memory s : Text) (fed : Fed) → fed_of names 
 fit_memory names memory s fed =
     cond_both (fits_in (length memory) (InHead 0)) _ _ (λ r. r ≡ Ok fed → length memory ≡ memory_size)
     (λ fits e. eqb-true (length memory) memory_size (and_parts _ _ fits).0)
-    (λ _ e. let z : ◌≡◌ {A = ℕ} 0 1 = cc in absurd (omega arith))
+    (λ _ e. cc)
 
 -- one piece is fed by one call
 fed_alone : (names : List Text) (memory s : Text) (fed : Fed) (a : After) → fed_of names (InHead 0) memory s ≡ Ok fed → feeding names (InHead 0) memory (s ∷ []) ≡ Ok a →
@@ -72,11 +71,11 @@ fed_found names memory s fed counted e =
 -- what is then handed out
 told_of : (names : List Text) (s : Text) (size room : ℕ) (r : Result Finding Unfit) → r ≡ Ok (finding_of (outcome names s)) → Explained names size room s r
 told_of names s size room (Ok f) e = found_told names s f (cc)
-told_of names s size room (Err u) e = let z : ◌≡◌ {A = ℕ} 0 1 = cc in absurd (omega arith)
+told_of names s size room (Err u) e = cc
 
 -- too little room for the fields
 refused_of : (names : List Text) (s : Text) (size room : ℕ) (r : Result Finding Unfit) → room < field_limit → r ≡ Err record {} → Explained names size room s r
-refused_of names s size room (Ok f) few e = let z : ◌≡◌ {A = ℕ} 0 1 = cc in absurd (omega arith)
+refused_of names s size room (Ok f) few e = cc
 refused_of names s size room (Err u) few e = inr few
 
 -- the whole call, where the memory was not refused

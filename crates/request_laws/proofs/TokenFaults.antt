@@ -1,20 +1,39 @@
 -- Every path is good tokens, and then nothing or a text that begins with no token.
-use Rattle.std.proofs.Common.{◌≡◌, ℕ, ◌+◌, ◌<◌, true, false, T, eqb, ◌⊎◌, [], ◌∷◌, ◌++◌, length, Some, None, sym, refl, ap, ◌∙◌, inl, inr, ⊎_elim, append_assoc, append-nil, arith}
+use Rattle.std.proofs.Common.{◌≡◌, ℕ, ◌+◌, ◌<◌, true, false, T, eqb, leb, ◌⊎◌, List, [], ◌∷◌, ◌++◌, length, Some, None, sym, refl, ap, ◌∙◌, inl, inr, ⊎_elim, append_assoc, append-nil, arith}
 use Rattle.std.proofs.lemmas.List.{length-append}
-use Rattle.std.proofs.lemmas.Bool.{cases_Bool, cond-false, eqb-true, or_cases, or_parts, both_ways}
+use Rattle.std.proofs.lemmas.Bool.{le-leb, or_right, cases_Bool, cond-false, eqb-true, or_cases, or_parts, both_ways}
+use Rattle.text.specs.Numerals.{hex_pair}
 use Rattle.text.specs.Bytes.{Text, plain_byte, nonempty}
 use Rattle.text.proofs.Passing.{is_true, differs}
+use Rattle.request.specs.Places.{Piece}
 use Rattle.request.specs.declared.target.Token.TheVariants.{Byte}
-use Rattle.request.specs.Targets.{tokens_at, tokens, code_value, good_code, good_token, bad_token}
+use Rattle.request.specs.Targets.{tokens_at, tokens, good_code, good_token, bad_token}
 use Rattle.request_laws.specs.Faults.{TokenSpelled, slash, bare, coded, TokensSpelled, none, token, Tokenless}
+use Rattle.request_laws.specs.Targets.{PartSpelled, end, undone, left, PartsSpelled, part, PathSpelled, root, parts}
+use Rattle.request_laws.specs.Targets as grammar
 use Rattle.request_laws.proofs.Tokens.{byte_token}
+
+-- parts and paths in the grammar are such tokens
+part_tokens : (t u : Text) (p : List Piece) → PartSpelled t p → TokensSpelled u → TokensSpelled (t ++ u)
+part_tokens t u p end m = m
+part_tokens t u p (grammar.bare {c} {t = r} {ps} h s) m = token (c ∷ []) (r ++ u) (bare h) (part_tokens r u ps s m)
+part_tokens t u p (undone {a} {b} v {t = r} {ps} e h s) m = token (37 ∷ a ∷ b ∷ []) (r ++ u) (coded (rw (e, is_true (plain_byte v) h) tt)) (part_tokens r u ps s m)
+part_tokens t u p (left {a} {b} v {t = r} {ps} e h s) m = token (37 ∷ a ∷ b ∷ []) (r ++ u) (coded (rw (e, or_right (plain_byte v) (leb 128 v) (le-leb 128 v h)) tt)) (part_tokens r u ps s m)
+
+parts_tokens : (t : Text) (ps : List (List Piece)) → PartsSpelled t ps → TokensSpelled t
+parts_tokens t ps grammar.none = none
+parts_tokens t ps (part r u {p} {ps = qs} s g m) = token (47 ∷ []) (r ++ u) slash (part_tokens r u p s (parts_tokens u qs m))
+
+pub path_tokens : (t : Text) (ps : List (List Piece)) → PathSpelled t ps → TokensSpelled t
+path_tokens t ps root = token (47 ∷ []) [] slash none
+path_tokens t ps (parts s) = parts_tokens t ps s
 
 -- a good token in front is passed over
 token_passed : (at : ℕ) (t u : Text) → TokenSpelled t → bad_token at (tokens (t ++ u)) ≡ bad_token (at + length t) (tokens u)
 unfolding bad_token tokens_at
 token_passed at t u slash = refl
 token_passed at t u (bare {c} h) = rw (differs plain_byte 37 c refl h, is_true (plain_byte c) h) refl
-token_passed at t u (coded {a} {b} h) = rw (is_true (good_code (code_value a b)) h) refl
+token_passed at t u (coded {a} {b} h) = rw (is_true (good_code (hex_pair a b)) h) refl
 
 pub tokens_passed : (at : ℕ) (t u : Text) → TokensSpelled t → bad_token at (tokens (t ++ u)) ≡ bad_token (at + length t) (tokens u)
 tokens_passed at t u none = ap (λ k. bad_token k (tokens u)) (omega arith)
@@ -34,7 +53,7 @@ no_byte at c t e h =
 
 no_code : (at a b : ℕ) (t : Text) → Tokenless (37 ∷ a ∷ b ∷ t) → bad_token at (tokens (37 ∷ a ∷ b ∷ t)) ≡ Some at
 unfolding bad_token tokens_at
-no_code at a b t h = ⊎_elim (λ g. absurd (h (37 ∷ a ∷ b ∷ []) t refl (coded (rw g tt)))) (λ g. rw g refl) (cases_Bool (good_code (code_value a b)))
+no_code at a b t h = ⊎_elim (λ g. absurd (h (37 ∷ a ∷ b ∷ []) t refl (coded (rw g tt)))) (λ g. rw g refl) (cases_Bool (good_code (hex_pair a b)))
 
 pub no_token : (at : ℕ) (t : Text) → T (nonempty t) → Tokenless t → bad_token at (tokens t) ≡ Some at
 unfolding bad_token tokens_at nonempty
@@ -68,7 +87,7 @@ bad_byte c t e g u v j slash = let is : c ≡ 47 = cc in let z : T (good_token (
 bad_byte c t e g u v j (bare {c = d} h) = let is : c ≡ d = cc in let z = (or_parts (plain_byte c) (eqb c 47) g).0 in absurd (rw (ap plain_byte (sym is) ∙ z) at h)
 bad_byte c t e g u v j (coded h) = let is : c ≡ 37 = cc in absurd (both_ways (eqb c 37) e (rw is refl))
 
-bad_code : (a b : ℕ) (t : Text) → good_code (code_value a b) ≡ false → Tokenless (37 ∷ a ∷ b ∷ t)
+bad_code : (a b : ℕ) (t : Text) → good_code (hex_pair a b) ≡ false → Tokenless (37 ∷ a ∷ b ∷ t)
 bad_code a b t g u v j slash = let z : ◌≡◌ {A = ℕ} 37 47 = cc in absurd (omega arith)
 bad_code a b t g u v j (bare {c = d} h) = let is : 37 ≡ d = cc in absurd (rw (sym is) at h)
 bad_code a b t g u v j (coded {a = x} {b = y} h) = let is : a ≡ x = cc in let so : b ≡ y = cc in absurd (rw (sym is, sym so, g) at h)
@@ -88,7 +107,7 @@ byte_cut c t e r =
 code_cut : (a b : ℕ) (t : Text) → Tokened t → Tokened (37 ∷ a ∷ b ∷ t)
 unfolding nonempty
 code_cut a b t r =
-    ⊎_elim (λ g. token_on (37 ∷ a ∷ b ∷ []) t (coded (rw g tt)) r) (λ g. stuck (37 ∷ a ∷ b ∷ t) tt (bad_code a b t g)) (cases_Bool (good_code (code_value a b)))
+    ⊎_elim (λ g. token_on (37 ∷ a ∷ b ∷ []) t (coded (rw g tt)) r) (λ g. stuck (37 ∷ a ∷ b ∷ t) tt (bad_code a b t g)) (cases_Bool (good_code (hex_pair a b)))
 
 half_cut : (c : ℕ) (t : Text) → length t < 2 → eqb c 37 ≡ true → Tokened (c ∷ t)
 unfolding nonempty

@@ -2,6 +2,7 @@
 -- in the order is one only where all that comes before it is good.
 use Rattle.std.specs.Prelude.{◌≡◌, ℕ, ◌+◌, ◌-◌, ◌<◌, ◌≤◌, Bool, true, false, not, ◌||◌, T, ◌⊎◌, List, [], ◌∷◌, ◌++◌, map, length, take, drop, codes, ◌==◌}
 use Rattle.std.specs.List.{prefix_len, AllByRecursion}
+use Rattle.text.specs.Numerals.{hex_pair}
 use Rattle.text.specs.Bytes.{Text, blank, plain_byte, query_byte, all, clean, nonempty, same_no_case}
 use Rattle.text.specs.Marks.{before}
 use Rattle.text_laws.specs.Laws.{Strays}
@@ -20,7 +21,7 @@ use Rattle.request.specs.Canonical.{carries_body, body_limit, head_limit, field_
 use Rattle.request.specs.Heads.{window}
 use Rattle.request.specs.Writing.{head_length}
 use Rattle.request.specs.Places.{Piece, Place, good_part, target_of}
-use Rattle.request.specs.Targets.{code_value, good_code}
+use Rattle.request.specs.Targets.{good_code}
 use Rattle.request_laws.specs.Targets.{PartSpelled, PartsSpelled, PathSpelled, TargetSpelled}
 use Rattle.request_laws.specs.Lines.{FieldSpelled, Named, Unframing, SizeSpelled, Hostless, HostSpelled}
 use Rattle.request_laws.specs.Grammar.{BodySpelled}
@@ -156,7 +157,7 @@ pub data HeadFault (names : List Text) (w : Text) : Flaw → Type 0 where
 pub data TokenSpelled : Text → Type 0 where
   slash : TokenSpelled (47 ∷ [])
   bare : {c : ℕ} → T (plain_byte c) → TokenSpelled (c ∷ [])
-  coded : {a b : ℕ} → T (good_code (code_value a b)) → TokenSpelled (37 ∷ a ∷ b ∷ [])
+  coded : {a b : ℕ} → T (good_code (hex_pair a b)) → TokenSpelled (37 ∷ a ∷ b ∷ [])
 
 pub data TokensSpelled : Text → Type 0 where
   none : TokensSpelled []

@@ -1,8 +1,9 @@
 -- The grammar of targets as they are sent, and the places that they mean. RFC 3986, 3.3 and 3.4; RFC 9112, 3.2.1: origin-form = absolute-path
 -- [ "?" query ].
 use Rattle.std.specs.Prelude.{◌≡◌, ℕ, ◌≤◌, T, List, [], ◌∷◌, ◌++◌, Some}
+use Rattle.text.specs.Numerals.{hex_pair}
 use Rattle.text.specs.Bytes.{Text, plain_byte, query_byte, all}
-use Rattle.request.specs.Targets.{code_value, capital}
+use Rattle.request.specs.Targets.{capital}
 use Rattle.request.specs.Places.{Piece, Plain, Coded, good_part, Place}
 
 -- The bytes of a part, and the pieces that they mean: a plain byte is itself, a code for a plain byte is that byte, and a code for a byte above 127 is
@@ -10,8 +11,8 @@ use Rattle.request.specs.Places.{Piece, Plain, Coded, good_part, Place}
 pub data PartSpelled : Text → List Piece → Type 0 where
   end : PartSpelled [] []
   bare : {c : ℕ} {t : Text} {ps : List Piece} → T (plain_byte c) → PartSpelled t ps → PartSpelled (c ∷ t) (Plain c ∷ ps)
-  undone : {a b : ℕ} (v : ℕ) {t : Text} {ps : List Piece} → code_value a b ≡ Some v → T (plain_byte v) → PartSpelled t ps → PartSpelled (37 ∷ a ∷ b ∷ t) (Plain v ∷ ps)
-  left : {a b : ℕ} (v : ℕ) {t : Text} {ps : List Piece} → code_value a b ≡ Some v → 128 ≤ v → PartSpelled t ps → PartSpelled (37 ∷ a ∷ b ∷ t) (Coded (capital a) (capital b) ∷ ps)
+  undone : {a b : ℕ} (v : ℕ) {t : Text} {ps : List Piece} → hex_pair a b ≡ Some v → T (plain_byte v) → PartSpelled t ps → PartSpelled (37 ∷ a ∷ b ∷ t) (Plain v ∷ ps)
+  left : {a b : ℕ} (v : ℕ) {t : Text} {ps : List Piece} → hex_pair a b ≡ Some v → 128 ≤ v → PartSpelled t ps → PartSpelled (37 ∷ a ∷ b ∷ t) (Coded (capital a) (capital b) ∷ ps)
 
 -- Parts, each after a slash; none is empty or ends with a dot.
 pub data PartsSpelled : Text → List (List Piece) → Type 0 where

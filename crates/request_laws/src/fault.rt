@@ -2,22 +2,16 @@
 ghost use Rattle.request_laws.specs.FaultLaws.{HeadsRefused, TargetsRefused, FaultIsFirst};
 
 // A head is refused exactly where a line or the whole of it breaks the grammar.
-pub fn heads_refused() -> u8
+pub fn heads_refused()
     ensures { HeadsRefused }
-{
-    0
-}
+{}
 
 // A target is refused exactly where it breaks the grammar.
-pub fn targets_refused() -> u8
+pub fn targets_refused()
     ensures { TargetsRefused }
-{
-    0
-}
+{}
 
 // The fault that is found is the first in the stated order.
-pub fn fault_is_first() -> u8
+pub fn fault_is_first()
     ensures { FaultIsFirst }
-{
-    0
-}
+{}

@@ -2,22 +2,16 @@
 ghost use Rattle.request_laws.specs.TargetLaws.{TargetsRead, TargetsMean, PlacesAgain};
 
 // Nothing is wrong with a target exactly where the grammar has a place that it means.
-pub fn targets_read() -> u8
+pub fn targets_read()
     ensures { TargetsRead }
-{
-    0
-}
+{}
 
 // The canonical form of a target is the target of the place that it means.
-pub fn targets_mean() -> u8
+pub fn targets_mean()
     ensures { TargetsMean }
-{
-    0
-}
+{}
 
 // The target of a good place means that place.
-pub fn places_again() -> u8
+pub fn places_again()
     ensures { PlacesAgain }
-{
-    0
-}
+{}

@@ -1,11 +1,11 @@
 -- The parts of a rule's path compared with those of a path as one text, in lower case.
-use Rattle.std.proofs.Common.{◌≡◌, ℕ, ◌+◌, ◌<◌, ◌≤◌, Bool, true, false, cond, ◌&&◌, eqb, List, [], ◌∷◌, length, get_or, drop, sym, refl, ap, ◌∙◌, ⊎_elim, arith}
-use Rattle.std.proofs.lemmas.List.{drop_more, drop_all}
-use Rattle.std.proofs.lemmas.Bool.{eqb-true, eqb-false, eq-eqb, ne_eqb, and_left, le-leb, lt-leb, cond-true, cond-false, cases_lt}
+use Rattle.std.specs.List.{list_all, zip}
+use Rattle.std.proofs.Common.{◌≡◌, ℕ, ◌<◌, ◌≤◌, Bool, true, false, cond, ◌&&◌, eqb, List, [], ◌∷◌, ◌++◌, length, take, drop, take-append-drop, sym, refl, ap, ◌∙◌, ap₂, arith}
+use Rattle.std.proofs.lemmas.Bool.{eqb-true, eqb-false, eq-eqb, ne_eqb, and_left, le-leb, lt-leb, cond-true, cond-false}
 use Rattle.std.proofs.lemmas.Bool.Decides.{nat_tests}
 use Rattle.text.specs.Bytes.{Text, lower, lowered, same}
 use Rattle.text.specs.Marks.{split, on_first}
-use Rattle.rules.specs.Rules.{begins, parts_of}
+use Rattle.rules.specs.Rules.{begins, ends_part, parts_of}
 
 -- the text in lower case goes on as the word does, and then ends or goes on with a slash
 unfoldable pub goes_on : Text → Text → Bool
@@ -51,6 +51,10 @@ empty_text true w ts h = begins_none ts h
 empty_text false w [] h = refl
 empty_text false w (t ∷ ts) h = refl
 
+and_no : (b : Bool) → (b && false) ≡ false
+and_no true = refl
+and_no false = refl
+
 and_assoc : (a b c : Bool) → ((a && b) && c) ≡ (a && (b && c))
 and_assoc true b c = refl
 and_assoc false b c = refl
@@ -95,32 +99,44 @@ parts_text_so (w ∷ ws) [] = empty_text (eqb w 47) w (split 47 ws) (split_some 
 parts_text_so (w ∷ ws) (c ∷ cs) =
     one_byte (eqb w 47) (eqb c 47) w c (split 47 ws) (split 47 cs) refl refl (split_some 47 ws) (split_some 47 cs) ∙ ap (λ b. eqb w (lower c) && b) (parts_text_so ws cs)
 
--- at a step of a loop over both: the text has ended, one byte more, and the word has ended
-pub goes_short : (ws cs : Text) (i : ℕ) → i < length ws → length cs ≤ i → goes_on (drop i ws) (drop i cs) ≡ false
-unfolding goes_on
-goes_short ws cs i h k = rw (drop_more ws i 0 h, drop_all i cs k)
+-- two texts of one length agree, the first in lower case
+abbrev pub agreed : Text → Text → Bool
+agreed front ws = list_all (λ p. eqb p.1 (lower p.0)) (zip front ws)
 
-pub goes_one : (ws cs : Text) (i : ℕ) → i < length ws → i < length cs → goes_on (drop i ws) (drop i cs) ≡ (eqb (get_or ws i 0) (lower (get_or cs i 0)) && goes_on (drop (i + 1) ws) (drop (i + 1) cs))
+end_one : (rest : Text) → goes_on [] rest ≡ ends_part rest
 unfolding goes_on
-goes_one ws cs i h k = ap (λ ys. goes_on ys (drop i cs)) (drop_more ws i 0 h) ∙ ap (λ ys. goes_on (get_or ws i 0 ∷ drop (i + 1) ws) ys) (drop_more cs i 0 k)
+end_one [] = refl
+end_one (c ∷ cs) = refl
 
-pub goes_end : (ws cs : Text) (i : ℕ) → length ws ≤ i → length cs ≤ i → goes_on (drop i ws) (drop i cs) ≡ true
+goes_both : (ws front rest : Text) → length front ≡ length ws → goes_on ws (front ++ rest) ≡ (agreed front ws && ends_part rest)
 unfolding goes_on
-goes_end ws cs i h k = rw (drop_all i ws h, drop_all i cs k)
+goes_both [] [] rest h = end_one rest
+goes_both [] (c ∷ front) rest h = absurd (omega arith)
+goes_both (w ∷ ws) [] rest h = absurd (omega arith)
+goes_both (w ∷ ws) (c ∷ front) rest h = ap (λ b. eqb w (lower c) && b) (goes_both ws front rest (omega arith)) ∙ sym (and_assoc (eqb w (lower c)) (agreed front ws) (ends_part rest))
 
-pub goes_past : (ws cs : Text) (i : ℕ) → length ws ≤ i → i < length cs → goes_on (drop i ws) (drop i cs) ≡ eqb (get_or cs i 0) 47
+goes_short : (ws cs : Text) → length cs < length ws → goes_on ws cs ≡ false
 unfolding goes_on
-goes_past ws cs i h k = ap (λ ys. goes_on ys (drop i cs)) (drop_all i ws h) ∙ ap (λ ys. goes_on [] ys) (drop_more cs i 0 k)
+goes_short [] cs h = absurd (omega arith)
+goes_short (w ∷ ws) [] h = refl
+goes_short (w ∷ ws) (c ∷ cs) h = ap (λ b. eqb w (lower c) && b) (goes_short ws cs (omega arith)) ∙ and_no (eqb w (lower c))
 
--- a rule's path without parts, and one with some
+-- a path that is cut where the parts of a rule end, and one that is shorter than they are
+pub begins_cut : (ws front rest path : Text) → front ≡ take (length ws) path → rest ≡ drop (length ws) path → length front ≡ length ws → begins (split 47 ws) (split 47 path) ≡ (agreed front ws && ends_part rest)
+begins_cut ws front rest path e f h =
+    ap (λ t. begins (split 47 ws) (split 47 t)) (sym (ap₂ (λ s t. s ++ t) e f ∙ take-append-drop (length ws) path)) ∙ parts_text_so ws (front ++ rest) ∙ goes_both ws front rest h
+
+pub begins_short : (ws cs : Text) → length cs < length ws → begins (split 47 ws) (split 47 cs) ≡ false
+begins_short ws cs h = parts_text_so ws cs ∙ goes_short ws cs h
+
+-- a rule's path without parts, one with some where the path has some too, and where it has none
 pub parts_none : (start path : Text) → length start ≤ 1 → begins (parts_of start) (parts_of path) ≡ true
 unfolding begins
 parts_none start path h = ap (λ ts. begins ts (parts_of path)) (cond-true _ _ _ (le-leb (length start) 1 h))
 
-pub parts_some : (start path : Text) → 1 < length start → goes_on (drop 1 start) (drop 1 path) ≡ begins (parts_of start) (parts_of path)
-parts_some start path h =
-    let some : parts_of start ≡ split 47 (drop 1 start) = cond-false _ _ _ (lt-leb (length start) 1 h) in
-    ⊎_elim
-    (λ k. sym (parts_text_so (drop 1 start) (drop 1 path)) ∙ ap (λ ps. begins (split 47 (drop 1 start)) ps) (sym (cond-false _ _ _ (lt-leb (length path) 1 k))) ∙ ap (λ ts. begins ts (parts_of path)) (sym some))
-    (λ k. goes_short start path 1 h k ∙ sym (begins_none (split 47 (drop 1 start)) (split_some 47 (drop 1 start))) ∙ ap (λ ps. begins (split 47 (drop 1 start)) ps) (sym (cond-true _ _ _ (le-leb (length path) 1 k))) ∙ ap (λ ts. begins ts (parts_of path)) (sym some))
-    (cases_lt 1 (length path))
+pub parts_some : (start path : Text) → 1 < length start → 1 < length path → begins (parts_of start) (parts_of path) ≡ begins (split 47 (drop 1 start)) (split 47 (drop 1 path))
+parts_some start path h k = ap₂ begins (cond-false _ _ _ (lt-leb (length start) 1 h)) (cond-false _ _ _ (lt-leb (length path) 1 k))
+
+pub parts_lack : (start path : Text) → 1 < length start → length path ≤ 1 → begins (parts_of start) (parts_of path) ≡ false
+parts_lack start path h k =
+    ap₂ begins (cond-false _ _ _ (lt-leb (length start) 1 h)) (cond-true _ _ _ (le-leb (length path) 1 k)) ∙ begins_none (split 47 (drop 1 start)) (split_some 47 (drop 1 start))

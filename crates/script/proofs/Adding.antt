@@ -1,28 +1,13 @@
 -- When a server can have one more rule, and the servers one more of them.
-use Rattle.std.proofs.Common.{◌≡◌, ℕ, zero, suc, ◌+◌, ◌<◌, ◌≤◌, Bool, true, false, ◌||◌, List, [], ◌∷◌, ◌++◌, map, length, get_or, take, drop, set, is_ok, Ok, Err, vec_items, Result, sym, refl, ap, ◌∙◌, inl, inr, ⊎_elim, arith}
-use Rattle.std.proofs.lemmas.List.{length-map, set-get_or, drop_more, drop_all}
-use Rattle.std.proofs.lemmas.Bool.{le-leb, lt-leb, cond-true, cond-false}
+use Rattle.std.proofs.Common.{◌≡◌, ℕ, zero, suc, ◌≤◌, Bool, ◌||◌, List, [], ◌∷◌, ◌++◌, map, length, get_or, take, set, is_ok, Ok, Err, vec_items, Result, sym, refl, ap, ◌∙◌, inl, inr, ⊎_elim, arith}
+use Rattle.std.proofs.lemmas.List.{set-get_or}
+use Rattle.std.specs.List.{list_any}
 use Rattle.text.specs.Bytes.{Text, same_no_case}
 use Rattle.script.specs.Statements.{RuleText}
-use Rattle.script.specs.Settings.{ServerText, server_with, named, one, more, with_server, with_rule, server_in, Took}
+use Rattle.script.specs.Settings.{ServerText, server_with, named, one, more, with_rule, server_in, Took}
 use Rattle.script.specs.declared.settings.Server.{Server}
 use Rattle.script.specs.declared.problem.Problem.{Problem}
 use Rattle.script.specs.declared.problem.Problem.TheVariants as problem
-
-pub length_mapped : {X Y : Type 0} (f : X → Y) (xs : List X) (n : ℕ) → n ≡ length xs → length (map f xs) ≡ n
-length_mapped f xs n e = length-map xs f ∙ sym e
-
-abbrev pub holding : Text → List RuleText → ServerText
-holding n rs = record { name = n; rules = rs }
-
-pub rules_full : (r : RuleText) (s : ServerText) → 64 ≤ length s.rules → server_with r s ≡ Err problem.TooManyRules
-rules_full r s h = cond-true _ _ _ (le-leb 64 (length s.rules) h)
-
-pub rules_room : (r : RuleText) (s : ServerText) → length s.rules < 64 → server_with r s ≡ Ok (record { name = s.name; rules = s.rules ++ r ∷ [] })
-rules_room r s h = cond-false _ _ _ (lt-leb 64 (length s.rules) h)
-
-pub rules_ok : (r : RuleText) (s : ServerText) → length s.rules < 64 → is_ok (server_with r s) ≡ true
-rules_ok r s h = ap is_ok (rules_room r s h)
 
 -- the last server changed, or not
 abbrev pub placed_last : List ServerText → Result ServerText Problem → Result (List ServerText) Problem
@@ -41,10 +26,10 @@ placed_ok : (front : List ServerText) (o : Result ServerText Problem) → is_ok 
 placed_ok front (Ok t) = refl
 placed_ok front (Err e) = refl
 
-pub no_server : (r : RuleText) (ss : List ServerText) → length ss ≡ 0 → with_rule r ss ≡ Err problem.RuleWithoutServer
+pub no_server : {X : Type 0} (v : X → ServerText) (r : RuleText) (xs : List X) → length xs ≤ 0 → with_rule r (map v xs) ≡ Err problem.RuleWithoutServer
 unfolding with_rule
-no_server r [] e = refl
-no_server r (s ∷ ss) e = let no : ⊥ = omega arith in elim no [ ]
+no_server v r [] h = refl
+no_server v r (x ∷ xs) h = absurd (omega arith)
 
 module _ {X : Type 0} (v : X → ServerText) (r : RuleText) (x : X) where
   at_last : (i : ℕ) (xs : List X) → length xs ≡ suc i → x ≡ get_or xs i x → with_rule r (map v xs) ≡ placed_last (take i (map v xs)) (server_with r (v x))
@@ -73,20 +58,7 @@ module _ {X : Type 0} (v : X → ServerText) (r : RuleText) (x : X) where
         ⊎_elim (λ q. inl (at_last i xs h e ∙ ap (placed_last front) q)) (λ q. inr (q.0, q.1, ap is_ok (at_last i xs h e) ∙ placed_ok front (server_with r (v x)) ∙ q.2)) t.1,
       )
 
--- one server more is looked at for its name
-pub named_one : (n : Text) (xs : List Server) (i : ℕ) (x : Server) → i < length xs → x ≡ get_or xs i x → named n (map server_in (drop i xs)) ≡ (same_no_case (vec_items x.name) n || named n (map server_in (drop (i + 1) xs)))
-unfolding named
-named_one n xs i x h e = ap (λ ys. named n (map server_in ys)) (drop_more xs i x h) ∙ ap (λ y. same_no_case (vec_items y.name) n || named n (map server_in (drop (i + 1) xs))) (sym e)
-
-pub named_none : (n : Text) (xs : List Server) (i : ℕ) → length xs ≤ i → named n (map server_in (drop i xs)) ≡ false
-unfolding named
-named_none n xs i h = ap (λ ys. named n (map server_in ys)) (drop_all i xs h)
-
-pub servers_full : (n : Text) (ss : List ServerText) → 8 ≤ length ss → with_server n ss ≡ Err problem.TooManyServers
-servers_full n ss h = cond-true _ _ _ (le-leb 8 (length ss) h)
-
-pub servers_twice : (n : Text) (ss : List ServerText) → length ss < 8 → named n ss ≡ true → with_server n ss ≡ Err problem.ServerTwice
-servers_twice n ss h e = cond-false _ _ _ (lt-leb 8 (length ss) h) ∙ cond-true _ _ _ e
-
-pub servers_room : (n : Text) (ss : List ServerText) → length ss < 8 → named n ss ≡ false → with_server n ss ≡ Ok (ss ++ holding n [] ∷ [])
-servers_room n ss h e = cond-false _ _ _ (lt-leb 8 (length ss) h) ∙ cond-false _ _ _ e
+-- a name is looked for among the servers that are held
+pub named_held : (n : Text) (xs : List Server) → named n (map server_in xs) ≡ list_any (λ x. same_no_case (vec_items x.name) n) xs
+named_held n [] = refl
+named_held n (x ∷ xs) = ap (λ b. same_no_case (vec_items x.name) n || b) (named_held n xs)

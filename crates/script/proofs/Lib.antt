@@ -1,3 +1,5 @@
+pub mod Numbers
+pub mod Wording
 pub mod Judging
 pub mod Spelling
 pub mod Adding

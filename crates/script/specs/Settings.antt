@@ -1,5 +1,6 @@
 -- Settings as lists, and what a statement changes in them.
-use Rattle.std.specs.Prelude.{◌≡◌, Bool, true, false, cond, ◌||◌, ◌⊎◌, List, [], ◌∷◌, ◌++◌, map, length, is_ok, Ok, Err, vec_items, Result, MatchResult, nat_le}
+use Rattle.std.specs.Prelude.{◌≡◌, Bool, true, cond, ◌⊎◌, List, [], ◌∷◌, ◌++◌, map, length, is_ok, Ok, Err, vec_items, Result, MatchResult, nat_le}
+use Rattle.std.specs.List.{list_any}
 use Rattle.text.specs.Bytes.{Text, same_no_case}
 use Rattle.script.specs.Series.{methods_in, parts_in}
 use Rattle.script.specs.Statements.{RuleText}
@@ -8,7 +9,7 @@ use Rattle.script.specs.declared.problem.Problem.TheVariants as problem
 use Rattle.script.specs.declared.settings.OwnedRule.{OwnedRule}
 use Rattle.script.specs.declared.settings.Server.{Server}
 use Rattle.script.specs.declared.settings.Settings.{Settings}
-use Rattle.script.specs.declared.statement.Rule.{Rule}
+use Rattle.rules.specs.declared.Rule.{Rule}
 
 -- a server: its name and its rules, in their order
 pub record ServerText : Type 0 where
@@ -20,9 +21,8 @@ abbrev pub server_with : RuleText → ServerText → Result ServerText Problem
 server_with r s = cond (nat_le 64 (length s.rules)) (Err problem.TooManyRules) (Ok (record { name = s.name; rules = s.rules ++ r ∷ [] }))
 
 -- one of the servers has this name, but for case
-unfoldable pub named : Text → List ServerText → Bool
-named n [] = false
-named n (s ∷ ss) = same_no_case s.name n || named n ss
+abbrev pub named : Text → List ServerText → Bool
+named n ss = list_any (λ s. same_no_case s.name n) ss
 
 -- the servers with one more behind them, of which there may be 8
 abbrev pub with_server : Text → List ServerText → Result (List ServerText) Problem

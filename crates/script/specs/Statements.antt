@@ -1,5 +1,6 @@
 -- The grammar of a script's line: what each line says, or what is wrong with it.
 use Rattle.std.specs.Prelude.{◌≡◌, ℕ, ◌+◌, ◌*◌, Bool, true, cond, ◌&&◌, List, [], ◌∷◌, is_some, Some, None, Ok, Err, codes, Option, Result, ◌==◌, nat_le}
+use Rattle.std.specs.Option.{option_map, ok_or}
 use Rattle.text.specs.Bytes.{Text}
 use Rattle.text.specs.Numerals.{digit_value, on_digit}
 use Rattle.text.specs.declared.numeral.Base.TheVariants.{Decimal}
@@ -15,8 +16,8 @@ use Rattle.script.specs.declared.statement.Sender.{Sender}
 use Rattle.script.specs.declared.statement.Sender.TheVariants as sender
 use Rattle.script.specs.declared.statement.Statement.{Statement}
 use Rattle.script.specs.declared.statement.Statement.TheVariants as statement
-use Rattle.script.specs.declared.statement.Verdict.{Verdict}
-use Rattle.script.specs.declared.statement.Verdict.TheVariants.{Allow, Deny}
+use Rattle.rules.specs.declared.Verdict.{Verdict}
+use Rattle.rules.specs.declared.Verdict.TheVariants.{Allow, Deny}
 use Rattle.script.specs.declared.word.Word.TheVariants.{Name}
 
 -- a rule: its verdict, its methods and the first parts of the path
@@ -52,19 +53,6 @@ rule_of v t =
     (λ methods path. and_then (methods_of methods) (λ ms. and_then (parts_of path) (λ ps. Ok (rule (record { verdict = v; methods = ms; parts = ps })))))
     (Err problem.RuleWords)
 
--- clients are 1 to 16, servers 1 to 8
-abbrev pub most_senders : Side → ℕ
-most_senders side.Client = 16
-most_senders side.Server = 8
-
-abbrev pub sender_in : Side → ℕ → Sender
-sender_in side.Client n = sender.Client n
-sender_in side.Server n = sender.Server n
-
-abbrev pub sender_fault : Side → Problem
-sender_fault side.Client = problem.ClientNumber
-sender_fault side.Server = problem.ServerNumber
-
 abbrev pub ranged : ℕ → ℕ → ℕ → Option ℕ
 ranged least most n = cond (nat_le least n && nat_le n most) (Some n) None
 
@@ -75,15 +63,16 @@ number_in most (a ∷ []) = on_digit (digit_value Decimal a) (λ n. ranged 1 mos
 number_in most (a ∷ b ∷ []) = on_digit (digit_value Decimal a) (λ m. on_digit (digit_value Decimal b) (λ n. ranged 10 most (m * 10 + n)))
 number_in most (a ∷ b ∷ c ∷ cs) = None
 
-abbrev pub on_number : Option ℕ → (ℕ → Result Says Problem) → Problem → Result Says Problem
-on_number None go p = Err p
-on_number (Some n) go p = go n
+-- clients are 1 to 16, servers 1 to 8
+abbrev pub sender_of : Side → Text → Result Sender Problem
+sender_of side.Client t = ok_or (option_map sender.Client (number_in 16 t)) problem.ClientNumber
+sender_of side.Server t = ok_or (option_map sender.Server (number_in 8 t)) problem.ServerNumber
 
 -- a sender's number and the bytes
 abbrev pub event_of : Side → Text → Result Says Problem
 event_of s t =
     on_cut (cut_at 32 t)
-    (λ number word. on_number (number_in (most_senders s) number) (λ n. and_then (payload_of word) (λ bytes. Ok (event (sender_in s n) bytes))) (sender_fault s))
+    (λ number word. and_then (sender_of s number) (λ from. and_then (payload_of word) (λ bytes. Ok (event from bytes))))
     (Err problem.EventWords)
 
 abbrev pub sent_of : Text → Result Says Problem

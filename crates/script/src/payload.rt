@@ -1,11 +1,13 @@
-// The bytes of an event, as hexadecimal digits or as text in quotes. One small machine reads both: a byte and the mode before it give the
-// next mode, and a byte that is spelled out where one is complete. A check runs it for its end alone, `decode` for what it puts out.
-ghost use Rattle.std.specs.Prelude.{◌≡◌, true, [], is_some, IfOk, vec_capacity, OnErr};
-ghost use Rattle.script.specs.Payloads.{start_of, fault_of, hex_byte, escaped, put_of, move_of, ends, spelled, text_of, payload_of, view_payload, Decoded};
+// The bytes of an event, as hexadecimal digits or as text in quotes. An iterator gives the bytes that are spelled, one after the other: a
+// check runs it for whether all of them are well spelled, `decode` for what they are.
+ghost use Rattle.std.specs.Prelude.{◌≡◌, true, false, [], ◌∷◌, is_some, Some, None, IfOk, MatchOption, vec_capacity, OnErr};
+ghost use Rattle.std.specs.Iterator.{YieldsFirst, item_count};
+ghost use Rattle.std.specs.Option.{option_map};
+ghost use Rattle.script.specs.Payloads.{start_of, fault_of, escaped, first_pair, first_escaped, first_quoted, has_ended, bytes_from, bytes_of, bytes_left, spelled, text_of, payload_of, view_payload, Decoded};
 
 use crate::problem::Problem;
 use text::mark::after;
-use text::numeral::Base;
+use text::numeral::hex_pair;
 
 #[derive(Clone, Copy)]
 pub enum Payload<'a> {
@@ -13,42 +15,6 @@ pub enum Payload<'a> {
     Hex(&'a [u8]),
     // what follows the opening quote, the closing one included
     Quoted(&'a [u8]),
-}
-
-#[derive(Clone, Copy)]
-pub(crate) enum Mode {
-    // before the first digit
-    Start,
-    // after two digits
-    Whole,
-    // after the first digit of two
-    Half(u8),
-    // between the quotes
-    Plain,
-    // after a backslash
-    Escape,
-    // after `\x`
-    First,
-    // after `\x` and a digit
-    Second(u8),
-    // after the closing quote
-    Closed,
-}
-
-#[derive(Clone, Copy)]
-pub(crate) enum Move {
-    To(Mode),
-    Put(u8, Mode),
-    Bad,
-}
-
-// The byte that two hexadecimal digits spell.
-fn hex_byte(a: u8, b: u8) -> Option<u8>
-    ensures { result ≡ hex_byte a b }
-{
-    let high = Base::Hexadecimal.digit_value(a)?;
-    let low = Base::Hexadecimal.digit_value(b)?;
-    Some(high * 16 + low)
 }
 
 // The byte that a letter stands for after a backslash.
@@ -65,70 +31,68 @@ fn escaped(b: u8) -> Option<u8>
     }
 }
 
-impl Move {
-    fn put(spelled: Option<u8>, next: Mode) -> Move
-        ensures { result ≡ put_of spelled next }
-    {
-        match spelled {
-            Some(b) => Move::Put(b, next),
-            None => Move::Bad,
-        }
+// The byte that two digits spell in front, and what follows them.
+fn first_pair(digits: &[u8]) -> Option<(u8, &[u8])>
+    ensures { option_map (λ p. (p.0, p.1.now)) result ≡ first_pair digits.now }
+{
+    match digits {
+        [a, b, rest @ ..] => Some((hex_pair(*a, *b)?, rest)),
+        _ => None,
     }
 }
 
-impl Mode {
-    fn step(self, b: u8) -> Move
-        ensures { result ≡ move_of self b }
-    {
-        match self {
-            Mode::Start | Mode::Whole => Move::To(Mode::Half(b)),
-            Mode::Half(a) => Move::put(hex_byte(a, b), Mode::Whole),
-            Mode::Plain => Mode::step_plain(b),
-            Mode::Escape if b == b'x' => Move::To(Mode::First),
-            Mode::Escape => Move::put(escaped(b), Mode::Plain),
-            Mode::First => Move::To(Mode::Second(b)),
-            Mode::Second(a) => Move::put(hex_byte(a, b), Mode::Plain),
-            Mode::Closed => Move::Bad,
-        }
+// The byte that is spelled in front behind a backslash, and what follows.
+fn first_escaped(text: &[u8]) -> Option<(u8, &[u8])>
+    ensures { option_map (λ p. (p.0, p.1.now)) result ≡ first_escaped text.now }
+{
+    match text {
+        [b'x', rest @ ..] => first_pair(rest),
+        [c, rest @ ..] => Some((escaped(*c)?, rest)),
+        [] => None,
     }
+}
 
-    fn step_plain(b: u8) -> Move
-        ensures { result ≡ move_of Mode.Plain b }
-    {
-        match b {
-            b'"' => Move::To(Mode::Closed),
-            b'\\' => Move::To(Mode::Escape),
-            b' '..=b'~' => Move::Put(b, Mode::Plain),
-            _ => Move::Bad,
-        }
+// The byte that is spelled in front in quotes, and what follows.
+fn first_quoted(text: &[u8]) -> Option<(u8, &[u8])>
+    ensures { option_map (λ p. (p.0, p.1.now)) result ≡ first_quoted text.now }
+{
+    match text {
+        [b'\\', rest @ ..] => first_escaped(rest),
+        [c @ (b' '..=b'!' | b'#'..=b'~'), rest @ ..] => Some((*c, rest)),
+        _ => None,
     }
+}
 
-    fn ends(self) -> bool
-        ensures { result ≡ ends self }
-    {
-        matches!(self, Mode::Whole | Mode::Closed)
+// The bytes that a payload spells, one after the other; none in place of the first that is misspelled, and then nothing more. Which problem that is
+// depends on the payload alone, so the items do not carry it.
+#[derive(Drop)]
+pub(crate) struct Spelling<'a> {
+    // what is still to be spelled out; nothing behind the last digits, a closing quote or a fault
+    left: Option<Payload<'a>>,
+}
+
+impl<'a> Iterator for Spelling<'a> {
+    type Item = Option<u8>;
+
+    ghost next_gives = { YieldsFirst bytes_left };
+
+    ghost remaining = { item_count bytes_left };
+
+    #[tactic(auto, using(crate::proofs::Spelling::ended))]
+    fn next(&mut self) -> Option<Option<u8>> {
+        let payload = self.left.take()?;
+        if payload.has_ended() {
+            return None;
+        }
+        let Some((b, left)) = payload.first() else {
+            return Some(None);
+        };
+        self.left = left;
+        Some(Some(b))
     }
 }
 
 impl<'a> Payload<'a> {
-    fn start(self) -> Mode
-        ensures { result ≡ start_of self.entry }
-    {
-        match self {
-            Payload::Hex(_) => Mode::Start,
-            Payload::Quoted(_) => Mode::Plain,
-        }
-    }
-
-    fn text(self) -> &'a [u8]
-        ensures { result.now ≡ text_of self.entry }
-    {
-        match self {
-            Payload::Hex(t) => t,
-            Payload::Quoted(t) => t,
-        }
-    }
-
     fn fault(self) -> Problem
         ensures { result ≡ fault_of self.entry }
     {
@@ -138,42 +102,54 @@ impl<'a> Payload<'a> {
         }
     }
 
+    // Whether only the closing quote is left.
+    fn has_ended(self) -> bool
+        ensures { result ≡ has_ended self.entry }
+    {
+        matches!(self, Payload::Quoted([b'"']))
+    }
+
+    // The byte that is spelled in front, and what is still to be spelled out behind it: nothing behind the last digits.
+    fn first(self) -> Option<(u8, Option<Payload<'a>>)>
+        ensures { MatchOption result (has_ended self.entry ≡ false → bytes_of (Some self.entry) ≡ None ∷ []) (λ p. bytes_of (Some self.entry) ≡ Some p.0 ∷ bytes_of p.1) }
+    {
+        match self {
+            Payload::Hex(digits) => {
+                let (b, rest) = first_pair(digits)?;
+                Some((b, (!rest.is_empty()).then_some(Payload::Hex(rest))))
+            }
+            Payload::Quoted(text) => {
+                let (b, rest) = first_quoted(text)?;
+                Some((b, Some(Payload::Quoted(rest))))
+            }
+        }
+    }
+
+    // The bytes that are spelled, one after the other.
+    fn bytes(self) -> Spelling<'a>
+        ensures { bytes_left result ≡ bytes_from (start_of self.entry) (text_of self.entry) }
+    {
+        Spelling { left: Some(self) }
+    }
+
     fn is_well_spelled(self) -> bool
         ensures { result ≡ is_some (spelled self.entry) }
     {
-        let mut mode = self.start();
-        let text = self.text();
-        for b in text {
-            match mode.step(*b) {
-                Move::To(next) => mode = next,
-                Move::Put(_, next) => mode = next,
-                Move::Bad => return false,
-            }
-        }
-        mode.ends()
+        self.bytes().all(|byte| byte.is_some())
     }
 
+    #[tactic(auto, using(crate::proofs::Spelling::joined_none, crate::proofs::Spelling::whole_spelled, crate::proofs::Spelling::puts_few))]
     fn spell(self, out: &mut Vec<u8>) -> Result<(), Problem>
         ensures { Decoded self.entry (vec_capacity out.old) out.new.items result }
     {
         out.clear();
-        let mut mode = self.start();
-        let text = self.text();
-        for b in text {
-            match mode.step(*b) {
-                Move::To(next) => mode = next,
-                Move::Put(spelled, next) => {
-                    out.push(spelled)?;
-                    mode = next;
-                }
-                Move::Bad => return Err(self.fault()),
-            }
+        for byte in self.bytes() {
+            let Some(b) = byte else {
+                return Err(self.fault());
+            };
+            out.push(b)?;
         }
-        if mode.ends() {
-            Ok(())
-        } else {
-            Err(self.fault())
-        }
+        Ok(())
     }
 
     // Makes `out` hold the bytes that are spelled, or nothing where it is refused.

@@ -1,69 +1,50 @@
 // A line read into a statement: by the words that it begins with, and then word by word, each cut off and checked where it stands.
-// Nothing is copied, and no byte is looked at more than a few times.
-ghost use Rattle.std.specs.Prelude.{◌≡◌, ◌≤◌, IfOk};
-ghost use Rattle.script.specs.Statements.{view, Sound, statement_of, server_of, rule_of, event_of, sent_of, number_in, sender_in, most_senders, sender_fault, passed_over};
+// Nothing is copied, and no byte is looked at more than a few times. That an event's bytes are well spelled is a clause of each reader, `sound`, and no
+// part of the type: whoever builds an event would have to show it.
+ghost use Rattle.std.specs.Prelude.{◌≡◌, IfOk};
+ghost use Rattle.script.specs.Statements.{view, Sound, statement_of, server_of, rule_of, event_of, sent_of, number_in, sender_of, passed_over};
 
 use crate::payload::read_payload;
 use crate::problem::Problem;
 use crate::series::{check_methods, check_path};
-use crate::statement::{Event, Rule, Sender, Statement, Verdict};
+use crate::statement::{Event, Sender, Statement};
 use crate::word::Word;
+use rules::{Rule, Verdict};
 use text::mark::{after, cut};
-use text::numeral::Base;
+use text::numeral::{Base, read_number};
 
-// The side that an event comes from.
+// The side that an event comes from. A value and no closure, since contracts name it.
 #[derive(Clone, Copy)]
 enum Side {
     Client,
     Server,
 }
 
-impl Side {
-    fn most(self) -> u8
-        ensures is { result ≡ most_senders self }
-        ensures small { result ≤ 16 }
-    {
-        match self {
-            Side::Client => 16,
-            Side::Server => 8,
-        }
-    }
-
-    fn sender(self, n: u8) -> Sender
-        ensures { result ≡ sender_in self n }
-    {
-        match self {
-            Side::Client => Sender::Client(n),
-            Side::Server => Sender::Server(n),
-        }
-    }
-
-    fn fault(self) -> Problem
-        ensures { result ≡ sender_fault self }
-    {
-        match self {
-            Side::Client => Problem::ClientNumber,
-            Side::Server => Problem::ServerNumber,
-        }
-    }
-}
-
-// The number that one digit or two spell without a zero in front, where it is 1 to `most`.
-fn read_number(word: &[u8], most: u8) -> Option<u8>
+// The number that one digit or two spell without a zero in front, where it is at most `most`.
+#[tactic(auto, using(crate::proofs::Numbers::small_number, crate::proofs::Numbers::as_byte, crate::proofs::Numbers::no_byte))]
+fn read_small(word: &[u8], most: u8) -> Option<u8>
     ensures { result ≡ number_in most word.now }
 {
-    let (n, least) = match word {
-        [a] => (Base::Decimal.digit_value(*a)?, 1),
-        [a, b] => (
-            Base::Decimal.digit_value(*a)? * 10 + Base::Decimal.digit_value(*b)?,
-            10,
-        ),
-        _ => return None,
-    };
-    if least <= n && n <= most {
-        Some(n)
-    } else {
-        None
+    if word.len() > 2 || word.starts_with(b"0") {
+        return None;
+    }
+    let n = u8::try_from(read_number(word, Base::Decimal)?).ok()?;
+    (n <= most).then_some(n)
+}
+
+impl Side {
+    // The sender of this side whose number a word spells.
+    fn read_sender(self, number: &[u8]) -> Result<Sender, Problem>
+        ensures { result ≡ sender_of self number.now }
+    {
+        match self {
+            Side::Client => read_small(number, 16)
+                .map(Sender::Client)
+                .ok_or(Problem::ClientNumber),
+            Side::Server => read_small(number, 8)
+                .map(Sender::Server)
+                .ok_or(Problem::ServerNumber),
+        }
     }
 }
 
@@ -82,9 +63,7 @@ fn read_rule(verdict: Verdict, rest: &[u8]) -> Result<Statement<'_>, Problem>
     ensures is { view result ≡ rule_of verdict rest.now }
     ensures sound { IfOk result Sound }
 {
-    let Some((methods, path)) = cut(rest, b' ') else {
-        return Err(Problem::RuleWords);
-    };
+    let (methods, path) = cut(rest, b' ').ok_or(Problem::RuleWords)?;
     check_methods(methods)?;
     check_path(path)?;
     Ok(Statement::Rule(Rule {
@@ -98,14 +77,9 @@ fn read_event(side: Side, rest: &[u8]) -> Result<Statement<'_>, Problem>
     ensures is { view result ≡ event_of side rest.now }
     ensures sound { IfOk result Sound }
 {
-    let Some((number, word)) = cut(rest, b' ') else {
-        return Err(Problem::EventWords);
-    };
-    let Some(n) = read_number(number, side.most()) else {
-        return Err(side.fault());
-    };
+    let (number, word) = cut(rest, b' ').ok_or(Problem::EventWords)?;
+    let sender = side.read_sender(number)?;
     let payload = read_payload(word)?;
-    let sender = side.sender(n);
     Ok(Statement::Event(Event { sender, payload }))
 }
 

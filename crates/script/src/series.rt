@@ -1,83 +1,58 @@
-// Methods and paths: words that a mark separates. The pieces are cut off one after the other, each byte is looked at twice at most, and
-// the count of pieces is the bound of the loop.
+// Methods and paths: words that a mark separates. The pieces are looked at one after the other, each byte twice at most, and no further than
+// the first that is wrong or one too many.
 ghost use Rattle.std.specs.Prelude.{◌≡◌};
-ghost use Rattle.script.specs.Series.{Checks, word_of, mark_of, most_of, wrong_of, too_many_of, pieces_of, pieces_in, methods_of, methods_in, parts_of, parts_in};
+ghost use Rattle.script.specs.Series.{Checks, methods, parts, pieces_of, pieces_in, methods_of, methods_in, parts_of, parts_in};
 
 use crate::problem::Problem;
 use crate::word::Word;
-use text::mark::{after, cut};
+use text::mark::{after, pieces};
 
+// What the words of a series are, what separates them, how many there may be, and what is wrong where one is no such word, or one too many.
 #[derive(Clone, Copy)]
-pub enum Series {
-    Methods,
-    Parts,
+pub struct Series {
+    word: Word,
+    mark: u8,
+    most: usize,
+    wrong: Problem,
+    too_many: Problem,
 }
 
+const METHODS: Series = Series {
+    word: Word::Method,
+    mark: b',',
+    most: 8,
+    wrong: Problem::Methods,
+    too_many: Problem::TooManyMethods,
+};
+
+const PARTS: Series = Series {
+    word: Word::Part,
+    mark: b'/',
+    most: 16,
+    wrong: Problem::Path,
+    too_many: Problem::TooManyParts,
+};
+
 impl Series {
-    fn word(self) -> Word
-        ensures { result ≡ word_of self }
-    {
-        match self {
-            Series::Methods => Word::Method,
-            Series::Parts => Word::Part,
-        }
-    }
-
-    fn mark(self) -> u8
-        ensures { result ≡ mark_of self }
-    {
-        match self {
-            Series::Methods => b',',
-            Series::Parts => b'/',
-        }
-    }
-
-    fn most(self) -> usize
-        ensures { result ≡ most_of self }
-    {
-        match self {
-            Series::Methods => 8,
-            Series::Parts => 16,
-        }
-    }
-
-    fn wrong(self) -> Problem
-        ensures { result ≡ wrong_of self }
-    {
-        match self {
-            Series::Methods => Problem::Methods,
-            Series::Parts => Problem::Path,
-        }
-    }
-
-    fn too_many(self) -> Problem
-        ensures { result ≡ too_many_of self }
-    {
-        match self {
-            Series::Methods => Problem::TooManyMethods,
-            Series::Parts => Problem::TooManyParts,
-        }
-    }
-
     // Whether the pieces of a text are good words, and not too many.
+    #[tactic(auto, using(crate::proofs::Judging::judged_none, crate::proofs::Judging::judged_one, crate::proofs::Judging::judged_over))]
     fn check(self, t: &[u8]) -> Result<(), Problem>
         ensures { Checks result (pieces_of self t.now) (pieces_in self t.now) }
     {
-        let mut rest = t;
-        for _ in 0..self.most() {
-            let Some((piece, more)) = cut(rest, self.mark()) else {
-                return if self.word().is(rest) {
-                    Ok(())
-                } else {
-                    Err(self.wrong())
-                };
+        // by `next`, since the bound on a count by `enumerate` was tried and not proved
+        let mut pieces = pieces(t, self.mark);
+        for _ in 0..self.most {
+            let Some(piece) = pieces.next() else {
+                return Ok(());
             };
-            if !self.word().is(piece) {
-                return Err(self.wrong());
+            if !self.word.is(piece) {
+                return Err(self.wrong);
             }
-            rest = more;
         }
-        Err(self.too_many())
+        match pieces.next() {
+            None => Ok(()),
+            Some(_) => Err(self.too_many),
+        }
     }
 }
 
@@ -86,7 +61,7 @@ pub fn check_methods(word: &[u8]) -> Result<(), Problem>
     ensures { Checks result (methods_of word.now) (methods_in word.now) }
 {
     match after(word, b"-") {
-        None => Series::Methods.check(word),
+        None => METHODS.check(word),
         Some([]) => Ok(()),
         Some(_) => Err(Problem::Methods),
     }
@@ -99,6 +74,6 @@ pub fn check_path(word: &[u8]) -> Result<(), Problem>
     match after(word, b"/") {
         None => Err(Problem::Path),
         Some([]) => Ok(()),
-        Some(rest) => Series::Parts.check(rest),
+        Some(rest) => PARTS.check(rest),
     }
 }

@@ -5,11 +5,11 @@ ghost use Rattle.script.specs.Settings.{Took, rule_text, rule_in, server_in, ser
 ghost use Rattle.script.specs.declared.problem.Problem.TheVariants.{Memory};
 
 use crate::problem::Problem;
-use crate::statement::{Rule, Verdict};
+use rules::{Rule, Verdict};
 use std::alloc::Global;
 use text::name::eq_ignore_case;
 
-// A rule with words of its own, spelled as in the script.
+// A rule with words of its own, spelled as in the script: what a `Rule` lends, as a path's buffer stands to a path.
 #[derive(Drop)]
 pub struct OwnedRule {
     pub verdict: Verdict,
@@ -29,6 +29,7 @@ pub struct Settings {
 }
 
 impl OwnedRule {
+    // A copy with words of its own. By hand, since memory may be wanting, and is asked for here.
     fn copy(heap: Global, rule: Rule<'_>) -> Result<OwnedRule, Problem>
         ensures { MatchResult result (λ o. rule_in o ≡ rule_text rule.entry) (λ p. p ≡ Memory) }
     {
@@ -39,6 +40,17 @@ impl OwnedRule {
             methods,
             path,
         })
+    }
+
+    // The rule, with its words lent.
+    pub fn as_rule(&self) -> Rule<'_>
+        ensures { rule_text result ≡ rule_in self.now }
+    {
+        Rule {
+            verdict: self.verdict,
+            methods: &self.methods,
+            path: &self.path,
+        }
     }
 }
 
@@ -53,13 +65,13 @@ impl Server {
         })
     }
 
-    fn add_rule(&mut self, heap: Global, rule: Rule<'_>) -> Result<(), Problem>
+    fn add_rule(&mut self, rule: Rule<'_>) -> Result<(), Problem>
         ensures { Took true (server_in self.old) (server_with (rule_text rule.entry) (server_in self.old)) (server_in self.new) result }
     {
         if self.rules.len() >= 64 {
             return Err(Problem::TooManyRules);
         }
-        let rule = OwnedRule::copy(heap, rule)?;
+        let rule = OwnedRule::copy(*self.rules.allocator(), rule)?;
         self.rules.push(rule)?;
         Ok(())
     }
@@ -85,17 +97,13 @@ impl Settings {
     fn declares(&self, name: &[u8]) -> bool
         ensures { result ≡ named name.now (servers_in self.now) }
     {
-        let servers = self.servers.as_slice();
-        for server in servers {
-            if eq_ignore_case(server.name.as_slice(), name) {
-                return true;
-            }
-        }
-        false
+        self.servers
+            .iter()
+            .any(|server| eq_ignore_case(&server.name, name))
     }
 
     // Adds a server with no rules.
-    pub(crate) fn add_server(&mut self, heap: Global, name: &[u8]) -> Result<(), Problem>
+    pub(crate) fn add_server(&mut self, name: &[u8]) -> Result<(), Problem>
         ensures { Took true (servers_in self.old) (with_server name.now (servers_in self.old)) (servers_in self.new) result }
     {
         if self.servers.len() >= 8 {
@@ -104,20 +112,19 @@ impl Settings {
         if self.declares(name) {
             return Err(Problem::ServerTwice);
         }
-        let server = Server::new(heap, name)?;
+        let server = Server::new(*self.servers.allocator(), name)?;
         self.servers.push(server)?;
         Ok(())
     }
 
     // Adds a rule to the last server.
-    pub(crate) fn add_rule(&mut self, heap: Global, rule: Rule<'_>) -> Result<(), Problem>
+    #[tactic(auto, using(crate::proofs::Adding::no_server, crate::proofs::Adding::took_last))]
+    pub(crate) fn add_rule(&mut self, rule: Rule<'_>) -> Result<(), Problem>
         ensures { Took true (servers_in self.old) (with_rule (rule_text rule.entry) (servers_in self.old)) (servers_in self.new) result }
     {
-        let n = self.servers.len();
-        if n == 0 {
-            return Err(Problem::RuleWithoutServer);
+        match self.servers.last_mut() {
+            None => Err(Problem::RuleWithoutServer),
+            Some(server) => server.add_rule(rule),
         }
-        let server = &mut self.servers[n - 1];
-        server.add_rule(heap, rule)
     }
 }

@@ -1,5 +1,6 @@
 // What a line of a script says. A statement borrows its words from the line, as they stand there; reading has checked them.
 use crate::payload::Payload;
+use rules::Rule;
 
 #[derive(Clone, Copy)]
 pub enum Statement<'a> {
@@ -7,24 +8,9 @@ pub enum Statement<'a> {
     Nothing,
     // the next server, by its name
     Server(&'a [u8]),
-    // a rule of the server declared last
+    // a rule of the server declared last: `-` or methods separated by commas, and `/` or parts that each follow a slash
     Rule(Rule<'a>),
     Event(Event<'a>),
-}
-
-#[derive(Clone, Copy)]
-pub struct Rule<'a> {
-    pub verdict: Verdict,
-    // `-`, or methods separated by commas
-    pub methods: &'a [u8],
-    // `/`, or parts, each after a slash
-    pub path: &'a [u8],
-}
-
-#[derive(Clone, Copy)]
-pub enum Verdict {
-    Allow,
-    Deny,
 }
 
 #[derive(Clone, Copy)]

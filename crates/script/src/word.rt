@@ -1,10 +1,10 @@
 // The words that a setting is made of: which bytes each has, and how many. The bytes of one word are looked at once, in one pass.
 ghost use Rattle.std.specs.Prelude.{◌≡◌, length};
-ghost use Rattle.text.specs.Bytes.{all};
 ghost use Rattle.script.specs.Words.{allows, fits, good_word};
 
 use text::kind::kind_of;
 
+// Values and no closures, since contracts name each.
 #[derive(Clone, Copy)]
 pub enum Word {
     // a server's name
@@ -30,27 +30,16 @@ impl Word {
         ensures { result ≡ fits self n }
     {
         match self {
-            Word::Name => 1 <= n && n <= 253,
-            Word::Method => 1 <= n && n <= 16,
-            Word::Part => 1 <= n,
+            Word::Name => matches!(n, 1..=253),
+            Word::Method => matches!(n, 1..=16),
+            Word::Part => n >= 1,
         }
-    }
-
-    fn allows_all(self, t: &[u8]) -> bool
-        ensures { result ≡ all (allows self) t.now }
-    {
-        for b in t {
-            if !self.allows(*b) {
-                return false;
-            }
-        }
-        true
     }
 
     // Whether a text is such a word.
     pub fn is(self, t: &[u8]) -> bool
         ensures { result ≡ good_word self t.now }
     {
-        self.fits(t.len()) && self.allows_all(t)
+        self.fits(t.len()) && t.iter().all(|b| self.allows(*b))
     }
 }

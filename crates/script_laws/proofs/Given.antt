@@ -3,7 +3,7 @@ use Rattle.std.proofs.Common.{◌≡◌, ℕ, IfSome, IfOk, Some, None, Ok, Err,
 use Rattle.std.specs.Option.{option_map, ok_or}
 use Rattle.text.specs.Bytes.{Text}
 use Rattle.text.specs.Numerals.{on_digit}
-use Rattle.script.specs.Statements.{Says, and_then, on_cut, on_number}
+use Rattle.script.specs.Statements.{Says, and_then, on_cut}
 use Rattle.script.specs.declared.problem.Problem.{Problem}
 
 abbrev pub Gives : {X : Type 0} → (X → Type 0) → Option X → Type 0
@@ -29,7 +29,3 @@ made_then P Q (Err e) go f h = tt
 pub on_cut_so : (P : Text → Text → Type 0) (Q : Says → Type 0) (o : Option (Text × Text)) (go : Text → Text → Result Says Problem) (e : Problem) → ((a b : Text) → P a b → IfOk (go a b) Q) → Gives (λ p. P p.0 p.1) o → IfOk (on_cut o go (Err e)) Q
 on_cut_so P Q None go e f h = tt
 on_cut_so P Q (Some p) go e f h = f p.0 p.1 h
-
-pub on_number_so : (P : ℕ → Type 0) (Q : Says → Type 0) (o : Option ℕ) (go : ℕ → Result Says Problem) (e : Problem) → ((n : ℕ) → P n → IfOk (go n) Q) → Gives P o → IfOk (on_number o go e) Q
-on_number_so P Q None go e f h = tt
-on_number_so P Q (Some n) go e f h = f n h

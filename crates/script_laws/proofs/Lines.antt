@@ -2,6 +2,7 @@
 use Rattle.std.proofs.Common.{◌≡◌, ℕ, ◌≤◌, eqb, List, [], ◌∷◌, ◌++◌, IfOk, Ok, Err, codes, Result, sym, refl, arith, MatchResult}
 use Rattle.std.proofs.lemmas.Result.{IfOk-at_ok}
 use Rattle.std.proofs.lemmas.Bool.{cond_both, eqb-true}
+use Rattle.std.specs.Option.{option_map, ok_or}
 use Rattle.text.specs.Bytes.{Text}
 use Rattle.text.specs.Numerals.{decimal}
 use Rattle.text.proofs.Passing.{is_true}
@@ -9,17 +10,17 @@ use Rattle.text.specs.Marks.{rest_after, cut_at}
 use Rattle.script.specs.Words.{good_word}
 use Rattle.script.specs.Series.{methods_of, parts_of}
 use Rattle.script.specs.Payloads.{payload_of}
-use Rattle.script.specs.Statements.{Says, nothing, server, rule, event, and_then, on_cut, on_number, number_in, server_of, rule_of, statement_of, said_by, view}
+use Rattle.script.specs.Statements.{Says, nothing, server, rule, event, and_then, on_cut, number_in, server_of, rule_of, statement_of, said_by, view}
 use Rattle.script.specs.declared.problem.Problem.{Problem}
 use Rattle.script.specs.declared.problem.Problem.TheVariants as problem
 use Rattle.script.specs.declared.statement.Sender.{Sender}
 use Rattle.script.specs.declared.statement.Sender.TheVariants as sender
-use Rattle.script.specs.declared.statement.Verdict.{Verdict}
-use Rattle.script.specs.declared.statement.Verdict.TheVariants.{Allow, Deny}
+use Rattle.rules.specs.declared.Verdict.{Verdict}
+use Rattle.rules.specs.declared.Verdict.TheVariants.{Allow, Deny}
 use Rattle.script.specs.declared.word.Word.TheVariants.{Name}
 use Rattle.script.specs.declared.statement.Statement.{Statement}
 use Rattle.script_laws.specs.Grammar.{MethodsWord, PathWord, BytesWord, verdict_word, LineSays, empty, comment, a_server, a_rule, from_client, from_server, ReadIffSays}
-use Rattle.script_laws.proofs.Given.{made_then, on_cut_so, on_number_so}
+use Rattle.script_laws.proofs.Given.{gives_mapped, made_or, made_then, on_cut_so}
 use Rattle.script_laws.proofs.Words.{on_rest_so, cut_joins, cut_before}
 use Rattle.script_laws.proofs.Rules.{methods_made, methods_read, methods_close, parts_made, parts_read}
 use Rattle.script_laws.proofs.Numbers.{Number, number_made, number_read}
@@ -41,15 +42,22 @@ rule_read v ms ps a b m p = rw (cut_before 32 a b (methods_close ms a m), method
 
 -- what is read of an event whose sender may be 1 to most
 abbrev event_from : ℕ → (ℕ → Sender) → Problem → Text → Result Says Problem
-event_from most from fault t = on_cut (cut_at 32 t) (λ a b. on_number (number_in most a) (λ n. and_then (payload_of b) (λ bs. Ok (event (from n) bs))) fault) (Err problem.EventWords)
+event_from most from fault t = on_cut (cut_at 32 t) (λ a b. and_then (ok_or (option_map from (number_in most a)) fault) (λ f. and_then (payload_of b) (λ bs. Ok (event f bs)))) (Err problem.EventWords)
 
 module _ (most : ℕ) (from : ℕ → Sender) (fault : Problem) (few : most ≤ 16) where
+  -- a sender is one by its number
+  abbrev Numbered : Text → Sender → Type 0
+  Numbered a f = (n : ℕ) × (f ≡ from n) × Number most a n
+
+  sender_made : (a : Text) → IfOk (ok_or (option_map from (number_in most a)) fault) (Numbered a)
+  sender_made a = made_or (Numbered a) (Numbered a) (option_map from (number_in most a)) fault (λ f h. h) (gives_mapped (Number most a) (Numbered a) from (number_in most a) (λ n h. (n, refl, h)) (number_made most few a))
+
   -- w is the words in front
   event_made : (w : Text) → ((n : ℕ) (bs u : Text) → 1 ≤ n → n ≤ most → BytesWord bs u → LineSays (w ++ (decimal n ++ (32 ∷ u))) (event (from n) bs)) → (t : Text) → IfOk (event_from most from fault t) (LineSays (w ++ t))
   event_made w says t =
       let P : Says → Type 0 = LineSays (w ++ t) in
       on_cut_so (λ a b. t ≡ a ++ (32 ∷ b)) P (cut_at 32 t) _ problem.EventWords
-      (λ a b e. on_number_so (Number most a) P (number_in most a) _ fault (λ n h. made_then (λ bs. BytesWord bs b) P (payload_of b) _ (λ bs k. rw (e, h.2) (says n bs b h.0 h.1 k)) (bytes_made b)) (number_made most few a))
+      (λ a b e. made_then (Numbered a) P (ok_or (option_map from (number_in most a)) fault) _ (λ f h. made_then (λ bs. BytesWord bs b) P (payload_of b) _ (λ bs k. rw (e, h.1, h.2.2) (says h.0 bs b h.2.0 h.2.1 k)) (bytes_made b)) (sender_made a))
       (cut_joins 32 t)
 
   event_read : (n : ℕ) (bs u : Text) → 1 ≤ n → n ≤ most → BytesWord bs u → event_from most from fault (decimal n ++ (32 ∷ u)) ≡ Ok (event (from n) bs)
@@ -83,4 +91,4 @@ read_iff_says t s = (λ e. IfOk-at_ok (LineSays t) e (line_made t), line_read t 
 -- what a call finds that reads so
 pub read_so : (t : Text) (r : Result Statement Problem) → view r ≡ statement_of t → MatchResult r (λ s. LineSays t (said_by s)) (λ _. (s : Says) → LineSays t s → ⊥)
 read_so t (Ok s) e = (read_iff_says t (said_by s)).0 (sym e)
-read_so t (Err p) e = λ s h. let found = line_read t s h in let z : ◌≡◌ {A = ℕ} 0 1 = cc in omega arith
+read_so t (Err p) e = λ s h. let found = line_read t s h in cc

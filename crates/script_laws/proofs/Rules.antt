@@ -7,10 +7,9 @@ use Rattle.text.specs.Bytes.{Text, all}
 use Rattle.text.proofs.Passing.{is_false, and_l, and_r, differs, all_weaker}
 use Rattle.text.specs.Marks.{rest_after, split}
 use Rattle.script.specs.Words.{allows, fits, good_word}
-use Rattle.script.specs.Series.{word_of, mark_of, most_of, pieces_of, on_none, methods_of, parts_of}
+use Rattle.script.specs.Series.{methods, parts, pieces_of, on_none, methods_of, parts_of}
 use Rattle.script.specs.declared.problem.Problem.TheVariants as problem
 use Rattle.script.specs.declared.series.Series.{Series}
-use Rattle.script.specs.declared.series.Series.TheVariants.{Methods, Parts}
 use Rattle.script.specs.declared.word.Word.{Word}
 use Rattle.script.specs.declared.word.Word.TheVariants.{Method, Part}
 use Rattle.script_laws.specs.Grammar.{joined_by, MethodsWord, no_method, some_methods, PathWord, no_part, some_parts}
@@ -26,17 +25,13 @@ lack w m e ts h =
 
 -- the pieces of a series
 abbrev Pieces : Series → Text → List Text → Type 0
-Pieces s t ts = (t ≡ joined_by (mark_of s) ts) × Good (word_of s) ts × (1 ≤ length ts) × (length ts ≤ most_of s)
+Pieces s t ts = (t ≡ joined_by s.mark ts) × Good s.word ts × (1 ≤ length ts) × (length ts ≤ s.most)
 
 pieces_made : (s : Series) (t : Text) → IfOk (pieces_of s t) (Pieces s t)
-pieces_made s t = let ts = split (mark_of s) t in let j = join_split (mark_of s) t in judged_made s ts (Pieces s t) (most_of s) ts (λ g h. (j.0, g, j.1, h))
+pieces_made s t = let ts = split s.mark t in let j = join_split s.mark t in judged_made s ts (Pieces s t) s.most ts (λ g h. (j.0, g, j.1, h))
 
-no_mark : (s : Series) → allows (word_of s) (mark_of s) ≡ false
-no_mark Methods = refl
-no_mark Parts = refl
-
-pieces_read : (s : Series) (ts : List Text) → Good (word_of s) ts → 1 ≤ length ts → length ts ≤ most_of s → pieces_of s (joined_by (mark_of s) ts) ≡ Ok ts
-pieces_read s ts g some few = rw (split_joined (mark_of s) ts (lack (word_of s) (mark_of s) (no_mark s) ts g) some) (judged_good s ts (most_of s) ts g few)
+pieces_read : (s : Series) (ts : List Text) → allows s.word s.mark ≡ false → Good s.word ts → 1 ≤ length ts → length ts ≤ s.most → pieces_of s (joined_by s.mark ts) ≡ Ok ts
+pieces_read s ts no_mark g some few = rw (split_joined s.mark ts (lack s.word s.mark no_mark ts g) some) (judged_good s ts s.most ts g few)
 
 -- methods
 alone : (t r : Text) → t ≡ codes "-" ++ r → IfOk (on_none r (Ok []) (Err problem.Methods)) (λ ms. MethodsWord ms t)
@@ -45,8 +40,8 @@ alone t (c ∷ r) e = tt
 
 pub methods_made : (t : Text) → IfOk (methods_of t) (λ ms. MethodsWord ms t)
 methods_made t =
-    on_rest_so (λ ms. MethodsWord ms t) (codes "-") t (λ r. on_none r (Ok []) (Err problem.Methods)) (pieces_of Methods t) (alone t)
-    (IfOk-weaker (pieces_of Methods t) (Pieces Methods t) (λ ms. MethodsWord ms t) (λ ms h. rw h.0 (some_methods ms h.1 h.2 h.3)) (pieces_made Methods t))
+    on_rest_so (λ ms. MethodsWord ms t) (codes "-") t (λ r. on_none r (Ok []) (Err problem.Methods)) (pieces_of methods t) (alone t)
+    (IfOk-weaker (pieces_of methods t) (Pieces methods t) (λ ms. MethodsWord ms t) (λ ms h. rw h.0 (some_methods ms h.1 h.2 h.3)) (pieces_made methods t))
 
 not_after : (m : ℕ) (t : Text) → T (all (other m) t) → rest_after (m ∷ []) t ≡ None
 unfolding all rest_after
@@ -55,7 +50,7 @@ not_after m (c ∷ t) h = rw (is_false (eqb c m) (and_l (other m c) (all (other 
 
 pub methods_read : (ms : List Text) (t : Text) → MethodsWord ms t → methods_of t ≡ Ok ms
 methods_read ms t no_method = unfold rest_after in refl
-methods_read ms t (some_methods _ g some few) = rw (not_after 45 (joined_by 44 ms) (all_joined (other 45) 44 ms tt (lack Method 45 refl ms g))) (pieces_read Methods ms g some few)
+methods_read ms t (some_methods _ g some few) = rw (not_after 45 (joined_by 44 ms) (all_joined (other 45) 44 ms tt (lack Method 45 refl ms g))) (pieces_read methods ms refl g some few)
 
 -- and no space stands in them
 pub methods_close : (ms : List Text) (t : Text) → MethodsWord ms t → T (all (other 32) t)
@@ -64,12 +59,12 @@ methods_close ms t no_method = tt
 methods_close ms t (some_methods _ g some few) = all_joined (other 32) 44 ms tt (lack Method 32 refl ms g)
 
 -- a path
-behind_slash : (t r : Text) → t ≡ codes "/" ++ r → IfOk (on_none r (Ok []) (pieces_of Parts r)) (λ ps. PathWord ps t)
+behind_slash : (t r : Text) → t ≡ codes "/" ++ r → IfOk (on_none r (Ok []) (pieces_of parts r)) (λ ps. PathWord ps t)
 behind_slash t [] e = rw e no_part
-behind_slash t (c ∷ r) e = IfOk-weaker (pieces_of Parts (c ∷ r)) (Pieces Parts (c ∷ r)) (λ ps. PathWord ps t) (λ ps h. rw (e, h.0) (some_parts ps h.1 h.2 h.3)) (pieces_made Parts (c ∷ r))
+behind_slash t (c ∷ r) e = IfOk-weaker (pieces_of parts (c ∷ r)) (Pieces parts (c ∷ r)) (λ ps. PathWord ps t) (λ ps h. rw (e, h.0) (some_parts ps h.1 h.2 h.3)) (pieces_made parts (c ∷ r))
 
 pub parts_made : (t : Text) → IfOk (parts_of t) (λ ps. PathWord ps t)
-parts_made t = on_rest_so (λ ps. PathWord ps t) (codes "/") t (λ r. on_none r (Ok []) (pieces_of Parts r)) (Err problem.Path) (behind_slash t) tt
+parts_made t = on_rest_so (λ ps. PathWord ps t) (codes "/") t (λ r. on_none r (Ok []) (pieces_of parts r)) (Err problem.Path) (behind_slash t) tt
 
 not_none : {X : Type 0} (ps : List Text) (x y : X) → Good Part ps → 1 ≤ length ps → on_none (joined_by 47 ps) x y ≡ y
 unfolding joined_by
@@ -81,4 +76,4 @@ not_none ((c ∷ p) ∷ q ∷ ps) x y g some = refl
 pub parts_read : (ps : List Text) (t : Text) → PathWord ps t → parts_of t ≡ Ok ps
 unfolding rest_after
 parts_read ps t no_part = refl
-parts_read ps t (some_parts _ g some few) = not_none ps (Ok []) (pieces_of Parts (joined_by 47 ps)) g some ∙ pieces_read Parts ps g some few
+parts_read ps t (some_parts _ g some few) = not_none ps (Ok []) (pieces_of parts (joined_by 47 ps)) g some ∙ pieces_read parts ps refl g some few

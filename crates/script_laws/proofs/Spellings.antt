@@ -1,33 +1,27 @@
 -- Bytes in digits or in quotes are spelled as the grammar says.
-use Rattle.std.proofs.Common.{◌≡◌, ℕ, ◌+◌, ◌*◌, false, not, ◌&&◌, eqb, [], ◌∷◌, ◌++◌, IfOk, Some, None, Ok, codes, Option, sym, refl, ap, ◌∙◌, arith, Bor}
+use Rattle.std.proofs.Common.{◌≡◌, ℕ, ◌+◌, ◌*◌, false, not, ◌&&◌, eqb, [], ◌∷◌, ◌++◌, IfOk, Some, None, Ok, codes, Option, refl, ap, ◌∙◌, arith, Bor}
 use Rattle.std.specs.Option.{option_map, ok_or}
 use Rattle.std.proofs.lemmas.Bool.{cond_both, eqb-true}
 use Rattle.std.proofs.lemmas.Bool.Decides.{nat_tests}
 use Rattle.text.specs.Bytes.{Text, between}
-use Rattle.text.specs.Numerals.{hex_value, digit_value}
-use Rattle.text.specs.declared.numeral.Base.TheVariants.{Hexadecimal}
+use Rattle.text.specs.Numerals.{hex_value, hex_pair}
 use Rattle.text.proofs.Passing.{is_true, is_false, and_l, and_r}
 use Rattle.text.specs.Marks.{rest_after}
 use Rattle.script.specs.Payloads as spec
-use Rattle.script.specs.Payloads.{hex_byte, moved, put_of, spelled_from, spelled, payload_of}
+use Rattle.script.specs.Payloads.{moved, put_of, spelled_from, spelled, payload_of}
 use Rattle.script.specs.declared.payload.Payload.TheVariants.{Hex, Quoted}
 use Rattle.script.specs.declared.problem.Problem.TheVariants as problem
 use Rattle.script_laws.specs.Grammar.{Pair, HexWord, last_pair, next_pair, Escape, cr, lf, tab, backslash, quote, QuotedText, closed, plain, escaped, coded, BytesWord, in_digits, in_quotes}
 use Rattle.script_laws.proofs.Given.{Gives, gives_mapped, on_digit_so, made_or}
 use Rattle.script_laws.proofs.Words.{on_rest_so}
 
--- a hexadecimal digit is worth less than sixteen
-small : (c : ℕ) → digit_value Hexadecimal c ≡ hex_value c
-small c = grind (arith, nat_tests)
-
-pair_made : (x y : ℕ) → Gives (λ b. Pair b x y) (hex_byte x y)
+pair_made : (x y : ℕ) → Gives (λ b. Pair b x y) (hex_pair x y)
 pair_made x y =
     let P : ℕ → Type 0 = λ b. Pair b x y in
-    on_digit_so P (digit_value Hexadecimal x) _ (λ h e.
-    on_digit_so P (digit_value Hexadecimal y) (λ l. Some (h * 16 + l)) (λ l f. record { high = h; low = l; first = sym (small x) ∙ e; second = sym (small y) ∙ f; byte = refl }))
+    on_digit_so P (hex_value x) _ (λ h e. on_digit_so P (hex_value y) (λ l. Some (h * 16 + l)) (λ l f. record { high = h; low = l; first = e; second = f; byte = refl }))
 
-pair_read : (b x y : ℕ) → Pair b x y → hex_byte x y ≡ Some b
-pair_read b x y p = rw (small x, small y, p.first, p.second, p.byte)
+pair_read : (b x y : ℕ) → Pair b x y → hex_pair x y ≡ Some b
+pair_read b x y p = rw (p.first, p.second, p.byte)
 
 escape_made : (c : ℕ) → Gives (λ b. Escape b c) (spec.escaped c)
 escape_made c =
@@ -64,8 +58,8 @@ hex_made : (t : Text) → Gives (λ bs. HexWord bs t) (hex t)
 unfolding spelled_from
 hex_made [] = tt
 hex_made (x ∷ []) = tt
-hex_made (x ∷ y ∷ []) = put (λ b. Pair b x y) (λ bs. bs ≡ []) (λ bs. HexWord bs (x ∷ y ∷ [])) (hex_byte x y) _ [] (λ b bs p e. rw e (last_pair p)) (pair_made x y) refl
-hex_made (x ∷ y ∷ z ∷ t) = put (λ b. Pair b x y) (λ bs. HexWord bs (z ∷ t)) (λ bs. HexWord bs (x ∷ y ∷ z ∷ t)) (hex_byte x y) _ (z ∷ t) (λ b bs p h. next_pair p h) (pair_made x y) (hex_made (z ∷ t))
+hex_made (x ∷ y ∷ []) = put (λ b. Pair b x y) (λ bs. bs ≡ []) (λ bs. HexWord bs (x ∷ y ∷ [])) (hex_pair x y) _ [] (λ b bs p e. rw e (last_pair p)) (pair_made x y) refl
+hex_made (x ∷ y ∷ z ∷ t) = put (λ b. Pair b x y) (λ bs. HexWord bs (z ∷ t)) (λ bs. HexWord bs (x ∷ y ∷ z ∷ t)) (hex_pair x y) _ (z ∷ t) (λ b bs p h. next_pair p h) (pair_made x y) (hex_made (z ∷ t))
 
 hex_read : (bs t : Text) → HexWord bs t → hex t ≡ Some bs
 unfolding spelled_from
@@ -104,7 +98,7 @@ quoted_made slash (c ∷ t) =
     cond_both (eqb c 120) _ _ (λ v. Gives (Quotes (92 ∷ c ∷ t)) (moved v (λ m. spelled_from m t))) (λ e. rw (eqb-true c 120 e) (quoted_made code t))
     (λ _. put (λ b. Escape b c) (Quotes t) (Quotes (92 ∷ c ∷ t)) (spec.escaped c) _ t (λ b bs e h. escaped e h) (escape_made c) (quoted_made whole t))
 quoted_made code (c ∷ t) = quoted_made (digit c) t
-quoted_made (digit a) (c ∷ t) = put (λ b. Pair b a c) (Quotes t) (Quotes (92 ∷ 120 ∷ a ∷ c ∷ t)) (hex_byte a c) _ t (λ b bs p h. coded p h) (pair_made a c) (quoted_made whole t)
+quoted_made (digit a) (c ∷ t) = put (λ b. Pair b a c) (Quotes t) (Quotes (92 ∷ 120 ∷ a ∷ c ∷ t)) (hex_pair a c) _ t (λ b bs p h. coded p h) (pair_made a c) (quoted_made whole t)
 quoted_made end (c ∷ t) = tt
 
 quoted_read : (bs t : Text) → QuotedText bs t → quoted t ≡ Some bs

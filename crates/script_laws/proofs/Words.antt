@@ -7,7 +7,7 @@ use Rattle.text.specs.Bytes.{Text, all}
 use Rattle.text.proofs.Passing.{is_true, is_false, and_i, and_l, and_r, all_append}
 use Rattle.text.specs.Marks.{rest_after, cut_at, split, on_first}
 use Rattle.script.specs.Words.{good_word}
-use Rattle.script.specs.Series.{word_of, wrong_of, judged, on_rest}
+use Rattle.script.specs.Series.{judged, on_rest}
 use Rattle.script.specs.declared.problem.Problem.{Problem}
 use Rattle.script.specs.declared.series.Series.{Series}
 use Rattle.script.specs.declared.word.Word.{Word}
@@ -86,17 +86,17 @@ all_joined p m (t ∷ u ∷ ts) g h = all_append p t (m ∷ joined_by m (u ∷ t
 abbrev pub Good : Word → List Text → Type 0
 Good w ts = AllByRecursion (λ t. T (good_word w t)) ts
 
-pub judged_made : {X : Type 0} (s : Series) (x : X) (P : X → Type 0) (k : ℕ) (ts : List Text) → (Good (word_of s) ts → length ts ≤ k → P x) → IfOk (judged s x k ts) P
+pub judged_made : {X : Type 0} (s : Series) (x : X) (P : X → Type 0) (k : ℕ) (ts : List Text) → (Good s.word ts → length ts ≤ k → P x) → IfOk (judged s x k ts) P
 unfolding judged
 judged_made s x P zero [] f = f tt (omega arith)
 judged_made s x P (suc k) [] f = f tt (omega arith)
 judged_made s x P zero (t ∷ ts) f = tt
 judged_made s x P (suc k) (t ∷ ts) f =
-    cond_both (good_word (word_of s) t) (judged s x k ts) (Err (wrong_of s)) (λ r. IfOk r P) (λ e. judged_made s x P k ts (λ g h. f (rw e tt, g) (omega arith))) (λ _. tt)
+    cond_both (good_word s.word t) (judged s x k ts) (Err s.wrong) (λ r. IfOk r P) (λ e. judged_made s x P k ts (λ g h. f (rw e tt, g) (omega arith))) (λ _. tt)
 
-pub judged_good : {X : Type 0} (s : Series) (x : X) (k : ℕ) (ts : List Text) → Good (word_of s) ts → length ts ≤ k → judged s x k ts ≡ Ok x
+pub judged_good : {X : Type 0} (s : Series) (x : X) (k : ℕ) (ts : List Text) → Good s.word ts → length ts ≤ k → judged s x k ts ≡ Ok x
 unfolding judged
 judged_good s x zero [] g h = refl
 judged_good s x (suc k) [] g h = refl
 judged_good s x zero (t ∷ ts) g h = absurd (omega arith)
-judged_good s x (suc k) (t ∷ ts) g h = rw (is_true (good_word (word_of s) t) g.0) (judged_good s x k ts g.1 (omega arith))
+judged_good s x (suc k) (t ∷ ts) g h = rw (is_true (good_word s.word t) g.0) (judged_good s x k ts g.1 (omega arith))

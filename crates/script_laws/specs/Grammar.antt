@@ -7,8 +7,8 @@ use Rattle.text_laws.specs.Laws.{Iff}
 use Rattle.script.specs.Words.{good_word}
 use Rattle.script.specs.Statements.{Says, nothing, server, rule, event, statement_of}
 use Rattle.script.specs.declared.statement.Sender.TheVariants as sender
-use Rattle.script.specs.declared.statement.Verdict.{Verdict}
-use Rattle.script.specs.declared.statement.Verdict.TheVariants.{Allow, Deny}
+use Rattle.rules.specs.declared.Verdict.{Verdict}
+use Rattle.rules.specs.declared.Verdict.TheVariants.{Allow, Deny}
 use Rattle.script.specs.declared.word.Word.TheVariants.{Name, Method, Part}
 
 -- texts with a mark between them

@@ -10,6 +10,7 @@ use script::read::read_statement;
 use script::statement::Statement;
 
 // What a line says, by the grammar; a problem exactly where the grammar has no such line.
+#[tactic(auto, using(crate::proofs::Lines::read_so))]
 pub fn read(line: &[u8]) -> Result<Statement<'_>, Problem>
     ensures { MatchResult result (λ s. LineSays line.now (said_by s)) (λ _. (s : Says) → LineSays line.now s → ⊥) }
 {
@@ -17,11 +18,10 @@ pub fn read(line: &[u8]) -> Result<Statement<'_>, Problem>
 }
 
 // A line is read as saying something exactly where the grammar says so.
-pub fn read_iff_says() -> u8
+#[tactic(auto, using(crate::proofs::Lines::read_iff_says))]
+pub fn read_iff_says()
     ensures { ReadIffSays }
-{
-    0
-}
+{}
 
 #[cfg(test)]
 mod tests;

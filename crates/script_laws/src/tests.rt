@@ -7,10 +7,7 @@ use std::alloc::{AllocError, Global};
 use std::test::Fail;
 
 fn problem_in(line: &[u8]) -> Option<Problem> {
-    match read_statement(line) {
-        Ok(_) => None,
-        Err(problem) => Some(problem),
-    }
+    read_statement(line).err()
 }
 
 // What is wrong with a line that ends with so many times the same bytes.
@@ -29,18 +26,15 @@ fn problem_in_long(
 
 fn read_lines(heap: Global, a: &[u8], b: &[u8], c: &[u8]) -> Result<(), Problem> {
     let mut script = Script::new(heap);
-    let _ = script.read_line(heap, a)?;
-    let _ = script.read_line(heap, b)?;
-    let _ = script.read_line(heap, c)?;
+    let _ = script.read_line(a)?;
+    let _ = script.read_line(b)?;
+    let _ = script.read_line(c)?;
     Ok(())
 }
 
 // The first thing that is wrong with a script of three lines.
 fn problem_in_script(heap: Global, a: &[u8], b: &[u8], c: &[u8]) -> Option<Problem> {
-    match read_lines(heap, a, b, c) {
-        Ok(()) => None,
-        Err(problem) => Some(problem),
-    }
+    read_lines(heap, a, b, c).err()
 }
 
 fn decodes(heap: Global, line: &[u8], bytes: &[u8]) -> Result<bool, Problem> {

@@ -1,7 +1,8 @@
 -- Names in lower case and squeezed values: how long they are, one byte of each, and what they leave as it is.
-use Rattle.std.proofs.Common.{◌≡◌, ℕ, suc, ◌+◌, ◌<◌, ◌≤◌, Bool, true, false, not, T, [], ◌∷◌, length, get_or, drop, refl, ap, arith}
-use Rattle.std.proofs.lemmas.List.{drop_more, drop_all}
+use Rattle.std.proofs.Common.{◌≡◌, ℕ, suc, ◌≤◌, Bool, true, false, not, T, [], ◌∷◌, map, length, Some, None, Option, refl, ap, ap₂, arith}
+use Rattle.std.proofs.lemmas.List.{nil_from_length}
 use Rattle.std.proofs.lemmas.Bool.Decides.{nat_tests}
+use Rattle.std.specs.Char.{to_ascii_lowercase}
 use Rattle.text.specs.Bytes.{Text, upper, lower, lowered, blank, all}
 use Rattle.text.specs.Trims.{before, squeezed_byte, squeezed_after}
 use Rattle.text.proofs.Passing.{is_false, and_l, and_r}
@@ -11,22 +12,30 @@ unfolding lowered
 length_lowered [] = refl
 length_lowered (c ∷ t) = ap suc (length_lowered t)
 
--- at a step of a loop, and at its end
-pub lowered_more : (t : Text) (i : ℕ) → i < length t → lowered (drop i t) ≡ lower (get_or t i 0) ∷ lowered (drop (i + 1) t)
+-- as the library makes it
+pub lowered_is : (t : Text) → lowered t ≡ map to_ascii_lowercase t
 unfolding lowered
-lowered_more t i h = ap lowered (drop_more t i 0 h)
+lowered_is [] = refl
+lowered_is (c ∷ t) = let one : lower c ≡ to_ascii_lowercase c = grind (arith, nat_tests) in ap₂ (λ d ds. d ∷ ds) one (lowered_is t)
 
-pub lowered_all : (t : Text) (i : ℕ) → length t ≤ i → lowered (drop i t) ≡ []
-unfolding lowered
-lowered_all t i h = ap lowered (drop_all i t h)
-
-pub squeezed_more : (run : Bool) (t : Text) (i : ℕ) → i < length t → squeezed_after run (drop i t) ≡ before (squeezed_byte run (get_or t i 0)) (squeezed_after (blank (get_or t i 0)) (drop (i + 1) t))
+-- the first byte of a value, and what follows it
+pub squeezed_first : (run : Bool) (c : ℕ) (s t : Text) → s ≡ c ∷ t → squeezed_after run s ≡ before (squeezed_byte run c) (squeezed_after (blank c) t)
 unfolding squeezed_after
-squeezed_more run t i h = ap (squeezed_after run) (drop_more t i 0 h)
+squeezed_first run c s t e = ap (squeezed_after run) e
 
-pub squeezed_all : (run : Bool) (t : Text) (i : ℕ) → length t ≤ i → squeezed_after run (drop i t) ≡ []
+pub squeezed_none : (run : Bool) (t : Text) → length t ≡ 0 → squeezed_after run t ≡ []
 unfolding squeezed_after
-squeezed_all run t i h = ap (squeezed_after run) (drop_all i t h)
+squeezed_none run t e = ap (squeezed_after run) (nil_from_length t e)
+
+length_before : (o : Option ℕ) (n : ℕ) (t : Text) → length t ≤ n → length (before o t) ≤ suc n
+length_before None n t h = omega arith
+length_before (Some c) n t h = omega arith
+
+-- squeezing makes nothing longer
+pub length_squeezed : (run : Bool) (t : Text) → length (squeezed_after run t) ≤ length t
+unfolding squeezed_after
+length_squeezed run [] = omega arith
+length_squeezed run (c ∷ t) = length_before (squeezed_byte run c) (length t) (squeezed_after (blank c) t) (length_squeezed (blank c) t)
 
 -- a text without capitals is in lower case
 lower_same : (c : ℕ) → upper c ≡ false → lower c ≡ c

@@ -1,51 +1,71 @@
 -- What one byte of a line decides for a cut, and how the pieces of a text follow from a cut at the mark between them.
-use Rattle.std.proofs.Common.{◌≡◌, ℕ, suc, ◌+◌, ◌<◌, ◌≤◌, Bool, true, false, cond, ◌||◌, T, eqb, List, [], ◌∷◌, ◌++◌, length, get_or, take, drop, Some, None, Option, sym, refl, ap, ◌∙◌, subst, append_assoc, arith}
-use Rattle.std.specs.Option.{option_map}
-use Rattle.std.proofs.lemmas.List.{append-nil, take_more, drop_more, drop_all}
-use Rattle.std.proofs.lemmas.Bool.{eq-eqb, ne_eqb, cond-true, cond-false}
+use Rattle.std.proofs.Common.{◌≡◌, ℕ, suc, ◌+◌, ◌<◌, Bool, true, false, not, cond, ◌&&◌, T, eqb, ltb, ◌==◌, List, [], ◌∷◌, ◌++◌, length, take, drop, Some, None, Option, sym, refl, ap, ◌∙◌, subst, arith}
+use lib.Pointwise.{pointwise}
+use Rattle.std.specs.List.{position}
+use Rattle.std.specs.Option.{MatchOption, option_map}
+use Rattle.std.proofs.lemmas.Bool.{eq-eqb, cond-true, cond-false}
 use Rattle.text.specs.Bytes.{Text, all}
 use Rattle.text.proofs.Passing.{and_l, and_r, differs}
-use Rattle.text.specs.Marks.{rest_after, cut_at, split, on_first}
+use Rattle.text.specs.Marks.{rest_after, before, cut_at, split, on_first}
 
-pub after_short : (ws cs : Text) (i : ℕ) → i < length ws → length cs ≤ i → rest_after (drop i ws) (drop i cs) ≡ None
+-- what follows a word is what is left when it is stripped off
+one_stripped : (b p : Bool) (o : Option Text) (t : Text) → o ≡ cond p (Some t) None → cond b o None ≡ cond (b && p) (Some t) None
+one_stripped true p o t e = e
+one_stripped false p o t e = refl
+
+stripped : (ws cs : Text) → cond (pointwise (λ c w. c == w) (take (length ws) cs) ws) (Some (drop (length ws) cs)) None ≡ rest_after ws cs
 unfolding rest_after
-after_short ws cs i h k = rw (drop_more ws i 0 h, drop_all i cs k)
+stripped [] cs = refl
+stripped (w ∷ ws) [] = refl
+stripped (w ∷ ws) (c ∷ cs) = sym (one_stripped (c == w) (pointwise (λ c w. c == w) (take (length ws) cs) ws) (rest_after ws cs) (drop (length ws) cs) (sym (stripped ws cs)))
 
-pub after_one : (ws cs : Text) (i : ℕ) → i < length ws → i < length cs → rest_after (drop i ws) (drop i cs) ≡ cond (eqb (get_or cs i 0) (get_or ws i 0)) (rest_after (drop (i + 1) ws) (drop (i + 1) cs)) None
-unfolding rest_after
-after_one ws cs i h k = ap (λ ys. rest_after ys (drop i cs)) (drop_more ws i 0 h) ∙ ap (λ ys. rest_after (get_or ws i 0 ∷ drop (i + 1) ws) ys) (drop_more cs i 0 k)
+found : {A : Type 0} (P : A → Type 0) (v : A → Text) (p : Bool) (t : Text) (r : Option A) → MatchOption r (p ≡ false) (λ x. (p ≡ true) × (v x ≡ t) × P x) → option_map v r ≡ cond p (Some t) None
+found P v p t None h = rw h refl
+found P v p t (Some x) h = rw h.0 (ap Some h.1)
 
-pub after_all : (ws cs : Text) (i : ℕ) → length ws ≤ i → rest_after (drop i ws) cs ≡ Some cs
-unfolding rest_after
-after_all ws cs i h = ap (λ ys. rest_after ys cs) (drop_all i ws h)
+pub after_stripped : {A : Type 0} (P : A → Type 0) (v : A → Text) (ws cs : Text) (r : Option A) → MatchOption r (pointwise (λ c w. c == w) (take (length ws) cs) ws ≡ false) (λ x. (pointwise (λ c w. c == w) (take (length ws) cs) ws ≡ true) × (v x ≡ drop (length ws) cs) × P x)
+    → option_map v r ≡ rest_after ws cs
+after_stripped P v ws cs r h = found P v (pointwise (λ c w. c == w) (take (length ws) cs) ws) (drop (length ws) cs) r h ∙ stripped ws cs
 
--- a cut, with a text put in front of what stands before the mark
-abbrev pub behind : Text → Option (Text × Text) → Option (Text × Text)
-behind t o = option_map (λ p. (t ++ p.0, p.1)) o
+-- a cut, with a byte put in front of what stands before the mark
+abbrev front : ℕ → Option (Text × Text) → Option (Text × Text)
+front c o = option_map (λ p. (c ∷ p.0, p.1)) o
 
-pub behind_none : (o : Option (Text × Text)) → behind [] o ≡ o
-behind_none None = refl
-behind_none (Some p) = refl
+-- a cut where the mark stands behind n bytes, inside the text
+abbrev cut_behind : ℕ → Text → Option (Text × Text)
+cut_behind n t = cond (ltb n (length t)) (Some (take n t, drop (n + 1) t)) None
 
-behind_more : (t : Text) (c : ℕ) (o : Option (Text × Text)) → behind t (option_map (λ p. (c ∷ p.0, p.1)) o) ≡ behind (t ++ c ∷ []) o
-behind_more t c None = refl
-behind_more t c (Some p) = ap (λ u. Some (u, p.1)) (sym (append_assoc t (c ∷ []) p.0))
+one_later : (n c : ℕ) (t : Text) → cut_behind (1 + n) (c ∷ t) ≡ cond (ltb n (length t)) (Some (c ∷ take n t, drop (n + 1) t)) None
+one_later n c t =
+    let a : 1 + n ≡ suc n = omega arith in
+    let b : suc n + 1 ≡ suc (n + 1) = omega arith in
+    let d : ltb (suc n) (suc (length t)) ≡ ltb n (length t) = grind arith in
+    rw (a, b, d) refl
 
-pub cut_here : (m : ℕ) (cs : Text) (i : ℕ) → i < length cs → get_or cs i 0 ≡ m → behind (take i cs) (cut_at m (drop i cs)) ≡ Some (take i cs, drop (i + 1) cs)
+later : (b : Bool) (c : ℕ) (p : Text × Text) → front c (cond b (Some p) None) ≡ cond b (Some (c ∷ p.0, p.1)) None
+later true c p = refl
+later false c p = refl
+
+one_cut : (b : Bool) (n c : ℕ) (t : Text) (o : Option (Text × Text)) → o ≡ cut_behind n t → cond b (Some ([], t)) (front c o) ≡ cut_behind (cond (not b) (1 + n) 0) (c ∷ t)
+one_cut true n c t o e = let d : ltb 0 (suc (length t)) ≡ true = grind arith in rw d refl
+one_cut false n c t o e = ap (front c) e ∙ later (ltb n (length t)) c (take n t, drop (n + 1) t) ∙ sym (one_later n c t)
+
+placed : (m : ℕ) (t : Text) → cut_at m t ≡ cut_behind (before m t) t
 unfolding cut_at
-cut_here m cs i h e =
-    ap (λ ys. behind (take i cs) (cut_at m ys)) (drop_more cs i 0 h) ∙ ap (λ b. behind (take i cs) (cond b (Some ([], drop (i + 1) cs)) (option_map (λ p. (get_or cs i 0 ∷ p.0, p.1)) (cut_at m (drop (i + 1) cs))))) (eq-eqb (get_or cs i 0) m e)
-    ∙ ap (λ u. Some (u, drop (i + 1) cs)) (append-nil (take i cs))
+placed m [] = refl
+placed m (c ∷ t) = one_cut (eqb c m) (before m t) c t (cut_at m t) (placed m t)
 
-pub cut_later : (m : ℕ) (cs : Text) (i : ℕ) → i < length cs → (get_or cs i 0 ≡ m → ⊥) → behind (take i cs) (cut_at m (drop i cs)) ≡ behind (take (i + 1) cs) (cut_at m (drop (i + 1) cs))
-unfolding cut_at
-cut_later m cs i h e =
-    ap (λ ys. behind (take i cs) (cut_at m ys)) (drop_more cs i 0 h) ∙ ap (λ b. behind (take i cs) (cond b (Some ([], drop (i + 1) cs)) (option_map (λ p. (get_or cs i 0 ∷ p.0, p.1)) (cut_at m (drop (i + 1) cs))))) (ne_eqb (get_or cs i 0) m e)
-    ∙ behind_more (take i cs) (get_or cs i 0) (cut_at m (drop (i + 1) cs)) ∙ ap (λ t. behind t (cut_at m (drop (i + 1) cs))) (sym (take_more cs i 0 h))
+-- the cut at a place, if there is one
+abbrev pub cut_where : Text → Option ℕ → Option (Text × Text)
+cut_where t o = option_map (λ n. (take n t, drop (n + 1) t)) o
 
-pub cut_nowhere : (m : ℕ) (cs t : Text) (i : ℕ) → length cs ≤ i → behind t (cut_at m (drop i cs)) ≡ None
-unfolding cut_at
-cut_nowhere m cs t i h = ap (λ ys. behind t (cut_at m ys)) (drop_all i cs h)
+chosen : (b : Bool) (n : ℕ) (t : Text) → cut_where t (cond b (Some n) None) ≡ cond b (Some (take n t, drop (n + 1) t)) None
+chosen true n t = refl
+chosen false n t = refl
+
+-- a cut is made at the first place of the mark
+pub cut_found : (m : ℕ) (t : Text) (o : Option ℕ) → o ≡ position (λ c. c == m) t → cut_where t o ≡ cut_at m t
+cut_found m t o e = ap (cut_where t) e ∙ chosen (ltb (before m t) (length t)) (before m t) t ∙ sym (placed m t)
 
 -- a text of bytes that pass a test which the mark fails, and then the mark: the text is what stands before it
 pub cut_at_so : (m : ℕ) (p : ℕ → Bool) → p m ≡ false → (t s : Text) → T (all p t) → cut_at m (t ++ (m ∷ s)) ≡ Some (t, s)
@@ -88,8 +108,3 @@ cut_shorter m (c ∷ cs) = one_shorter (eqb c m) c cs (cut_at m cs) (cut_shorter
 
 pub shorter : (m : ℕ) (t before after : Text) → Some (before, after) ≡ cut_at m t → length after < length t
 shorter m t before after e = subst (λ (o : Option (Text × Text)). Shorter (length t) o) (sym e) (cut_shorter m t)
-
--- a choice whose second is no
-pub or_none : (b : Bool) → (b || false) ≡ b
-or_none true = refl
-or_none false = refl

@@ -1,29 +1,10 @@
 -- Tests that passed, and tests on bytes: what passes one passes another.
-use Rattle.std.proofs.Common.{◌≡◌, ℕ, zero, suc, Bool, true, false, not, ◌&&◌, T, eqb, [], ◌∷◌, ◌++◌, take, sym, refl, ap, ◌∙◌}
-use Rattle.std.proofs.lemmas.Bool.{ne_eqb, both_ways}
-use Rattle.text.specs.Bytes.{Text, all, clean, line_end}
-
--- a test that passed is true, and one that failed is false
-pub is_true : (a : Bool) → T a → a ≡ true
-is_true true h = refl
-is_true false h = absurd h
-
-pub is_false : (a : Bool) → T (not a) → a ≡ false
-is_false true h = absurd h
-is_false false h = refl
-
--- both of two tests
-pub and_i : (a b : Bool) → T a → T b → T (a && b)
-and_i true b g h = h
-and_i false b g h = absurd g
-
-pub and_l : (a b : Bool) → T (a && b) → T a
-and_l true b h = tt
-and_l false b h = absurd h
-
-pub and_r : (a b : Bool) → T (a && b) → T b
-and_r true b h = h
-and_r false b h = absurd h
+use Rattle.std.proofs.Common.{◌≡◌, ℕ, zero, suc, Bool, true, false, not, ◌&&◌, T, eqb, [], ◌∷◌, ◌++◌, take, sym, refl, ap, ap₂, ◌∙◌}
+use Rattle.std.proofs.lemmas.Bool.{eq-eqb, eqb-true, ne_eqb, both_ways}
+use Rattle.text.specs.Bytes.{Text, all, same, clean, line_end}
+-- what a test says that passed or failed, and both of two tests: the library's, passed on from here
+pub use lib.Ieee.Bits.{is_true, is_false}
+pub use lib.Ieee.Fits.{and_i, and_l, and_r}
 
 -- neither CR nor LF
 abbrev pub not_end : ℕ → Bool
@@ -58,3 +39,18 @@ clean_by p cr lf t h = all_weaker p not_end (λ c h. rw (differs p 13 c cr h, di
 pub so : (a b : Bool) → (a ≡ true → b ≡ true) → T a → T b
 so true b f h = rw (f refl) tt
 so false b f h = absurd h
+
+-- the same texts
+pub same_self : (t : Text) → same t t ≡ true
+unfolding same
+same_self [] = refl
+same_self (c ∷ t) = ap (λ b. b && same t t) (eq-eqb c c refl) ∙ same_self t
+
+pub same_is : (s t : Text) → same s t ≡ true → s ≡ t
+unfolding same
+same_is [] [] e = refl
+same_is [] (d ∷ t) e = absurd (both_ways false refl e)
+same_is (c ∷ s) [] e = absurd (both_ways false refl e)
+same_is (c ∷ s) (d ∷ t) e =
+    let h : T (eqb c d && same s t) = rw e tt in
+    ap₂ (λ x xs. x ∷ xs) (eqb-true c d (is_true (eqb c d) (and_l (eqb c d) (same s t) h))) (same_is s t (is_true (same s t) (and_r (eqb c d) (same s t) h)))

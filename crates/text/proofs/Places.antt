@@ -1,8 +1,8 @@
 -- What an output holds after one write, and after another to its free end.
-use Rattle.std.proofs.Common.{◌≡◌, ℕ, ◌+◌, ◌-◌, ◌<◌, ◌≤◌, min, [], ◌∷◌, ◌++◌, length, take, drop, set, sym, refl, ap, ◌∙◌, ⊎_elim, append_assoc, arith}
+use Rattle.std.proofs.Common.{◌≡◌, ℕ, ◌+◌, ◌-◌, ◌<◌, ◌≤◌, min, [], ◌++◌, map, length, take, drop, sym, ap, ap₂, ◌∙◌, ⊎_elim, append_assoc, arith}
 use lib.Seq.{take-append-add, take-length}
 use borrow.Rule.Slice.PartMut.{put_mid}
-use Rattle.std.proofs.lemmas.List.{append-nil, length-append, length-set, length-take, length-take-le, length-drop, take-append-drop, take_more_set, take_all, take-append-le, take_at, drop_at, drop_all, drop-drop, drop-set-lt, nil_from_length}
+use Rattle.std.proofs.lemmas.List.{append-nil, length-append, length-map, length-take, length-take-le, length-drop, take-map, take_all, take-append-le, take_at, drop_at, drop_all, drop-drop, nil_from_length}
 use Rattle.std.proofs.lemmas.Bool.{cases_lt}
 use Rattle.text.specs.Bytes.{Text, placed, Wrote}
 
@@ -54,6 +54,20 @@ wrote_none xs = record { holds = sym (take-length xs); count = omega arith }
 pub wrote_as : {a b : Text} (xs ys : Text) (n : ℕ) → a ≡ b → Wrote a xs ys n → Wrote b xs ys n
 wrote_as xs ys n e w = record { holds = w.holds ∙ ap (λ t. placed t xs) e; count = w.count ∙ ap (λ t. min (length t) (length xs)) e }
 
+-- a write whose bytes are then changed one by one is a write of the changed text
+pub wrote_changed : {ys xs then : Text} {n : ℕ} (f : ℕ → ℕ) → Wrote ys xs then n → Wrote (map f ys) xs (map f (take n then) ++ drop n then) n
+wrote_changed {ys} {xs} {then} {n} f w =
+    let none : n - 0 ≡ n = omega arith in
+    let is : then ≡ take n ys ++ drop n xs = w.holds ∙ sym (wrote_front n ys xs w.count) ∙ ap (λ k. take k ys ++ drop k xs) none in
+    let long : length (take n ys) ≡ n = length-take-le n ys (omega (arith, w.count)) in
+    let front : map f (take n then) ≡ take n (map f ys) = ap (λ t. map f (take n t)) is ∙ ap (map f) (take_at (take n ys) (drop n xs) n long) ∙ sym (take-map f n ys) in
+    let back : drop n then ≡ drop n xs = ap (drop n) is ∙ drop_at (take n ys) (drop n xs) n long in
+    let count : n ≡ min (length (map f ys)) (length xs) = rw (length-map ys f) w.count in
+    record {
+      holds = ap₂ (λ s t. s ++ t) front back ∙ ap (λ k. take k (map f ys) ++ drop k xs) (sym none) ∙ wrote_front n (map f ys) xs count;
+      count = count;
+    }
+
 module _ (a b xs ys part : Text) (n m : ℕ) (w : Wrote a xs ys n) (v : Wrote b (take (length ys - n) (drop n ys)) part m) where
   long : length ys ≡ length xs
   long = ap length w.holds ∙ length_placed a xs
@@ -99,47 +113,3 @@ pub record Writing (whole left xs out : Text) (n : ℕ) : Type 0 where
   pub room : n ≤ length xs
   pub joined : take n out ++ left ≡ whole
   pub behind : drop n out ≡ drop n xs
-
-pub writing_none : (ys xs : Text) → Writing ys ys xs xs 0
-writing_none ys xs = record { long = refl; room = omega arith; joined = refl; behind = refl }
-
--- what is left, under another form
-pub writing_as : {ys s t xs out : Text} {n : ℕ} → s ≡ t → Writing ys s xs out n → Writing ys t xs out n
-writing_as {out} {n} e w = record { long = w.long; room = w.room; joined = ap (λ u. take n out ++ u) (sym e) ∙ w.joined; behind = w.behind }
-
--- one byte more
-pub writing_more : {ys t xs out : Text} {n : ℕ} (x : ℕ) → n < length xs → Writing ys (x ∷ t) xs out n → Writing ys t xs (set out n x) (n + 1)
-writing_more {t} {xs} {out} {n} x h w =
-    let there : n < length out = omega (arith, w.long) in
-    let below : n < n + 1 = omega arith in
-    record {
-      long = length-set out n x ∙ w.long;
-      room = omega arith;
-      joined = ap (λ zs. zs ++ t) (take_more_set out n x there) ∙ append_assoc (take n out) (x ∷ []) t ∙ w.joined;
-      behind = drop-set-lt (n + 1) out n x below ∙ sym (drop-drop 1 n out) ∙ ap (drop 1) w.behind ∙ drop-drop 1 n xs;
-    }
-
--- nothing is left
-pub wrote_whole : {ys xs out : Text} {n : ℕ} → Writing ys [] xs out n → Wrote ys xs out n
-wrote_whole {ys} {xs} {out} {n} w =
-    let is : take n out ≡ ys = sym (append-nil (take n out)) ∙ w.joined in
-    let at : n ≤ length out = omega (arith, w.long, w.room) in
-    let long : n ≡ length ys = sym (length-take-le n out at) ∙ ap length is in
-    let fits : length ys ≤ length xs = omega (arith, w.room) in
-    record {
-      holds = sym (take-append-drop n out) ∙ ap (λ zs. zs ++ drop n out) is ∙ ap (λ zs. ys ++ zs) w.behind ∙ ap (λ k. ys ++ drop k xs) long ∙ sym (placed_fits ys xs fits);
-      count = omega arith;
-    }
-
--- there is no more room
-pub wrote_full : {ys t xs out : Text} {n : ℕ} → length xs ≤ n → Writing ys t xs out n → Wrote ys xs out n
-wrote_full {ys} {t} {xs} {out} {n} h w =
-    let is : n ≡ length xs = omega (arith, w.room) in
-    let at : n ≤ length out = omega (arith, w.long, w.room) in
-    let all : length out ≤ n = omega (arith, w.long) in
-    let sum : length ys ≡ n + length t = ap length (sym w.joined) ∙ length-append (take n out) t ∙ ap (λ k. k + length t) (length-take-le n out at) in
-    let over : length xs ≤ length ys = omega arith in
-    record {
-      holds = sym (take_all n out all) ∙ sym (take-append-le n (take n out) t (omega (arith, length-take-le n out at)) ∙ take_all n (take n out) (omega (arith, length-take-le n out at))) ∙ ap (take n) w.joined ∙ ap (λ k. take k ys) is ∙ sym (placed_over ys xs over);
-      count = omega arith;
-    }

@@ -3,6 +3,7 @@ use Rattle.std.specs.Prelude.{ℕ, cond, not, List, [], ◌∷◌, Some, None, O
 use Rattle.std.specs.List.{prefix_len}
 use Rattle.std.specs.Option.{option_map}
 use Rattle.text.specs.Bytes.{Text}
+use Rattle.text.specs.declared.mark.Split.{Split}
 
 -- what follows the word in the line, where the line begins with it
 unfoldable pub rest_after : Text → Text → Option Text
@@ -27,3 +28,12 @@ on_first c (t ∷ ts) = (c ∷ t) ∷ ts
 unfoldable pub split : ℕ → Text → List Text
 split m [] = [] ∷ []
 split m (c ∷ cs) = cond (c == m) ([] ∷ split m cs) (on_first c (split m cs))
+
+-- the pieces of what is left of a text; none where nothing is left, which an empty text is not
+abbrev pub split_rest : ℕ → Option Text → List Text
+split_rest m None = []
+split_rest m (Some t) = split m t
+
+-- the pieces that an iterator has still to give
+abbrev pub pieces_left : Split → List Text
+pieces_left p = split_rest p.mark (option_map (λ x. x.now) p.rest)

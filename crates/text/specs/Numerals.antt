@@ -48,6 +48,10 @@ abbrev pub on_digit : Option ℕ → (ℕ → Option ℕ) → Option ℕ
 on_digit None go = None
 on_digit (Some d) go = go d
 
+-- the byte that two hexadecimal digits stand for
+abbrev pub hex_pair : ℕ → ℕ → Option ℕ
+hex_pair a b = on_digit (hex_value a) (λ x. on_digit (hex_value b) (λ y. Some (x * 16 + y)))
+
 -- the value of digits that follow others worth n; none where a byte is no digit
 unfoldable pub value_after : Base → ℕ → Text → Option ℕ
 value_after base n [] = Some n

@@ -2,6 +2,7 @@
 use Rattle.std.specs.Prelude.{ℕ, ◌-◌, Bool, false, cond, [], ◌∷◌, length, take, drop, Some, None, Option}
 use Rattle.std.specs.List.{prefix_len, suffix_len}
 use Rattle.text.specs.Bytes.{Text, blank}
+use Rattle.text.specs.declared.squeezed.Squeezed.{Squeezed}
 
 -- without the spaces and tabs in front: `prefix_len p xs` counts the first elements that pass
 abbrev pub trimmed_front : Text → Text
@@ -29,3 +30,7 @@ squeezed_after run (c ∷ cs) = before (squeezed_byte run c) (squeezed_after (bl
 
 abbrev pub squeezed : Text → Text
 squeezed t = squeezed_after false t
+
+-- the bytes that an iterator has still to give
+abbrev pub squeezed_left : Squeezed → Text
+squeezed_left s = squeezed_after s.run s.rest.now

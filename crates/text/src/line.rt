@@ -1,8 +1,10 @@
 // Lines, cut off the front of a text at the first CR or LF.
-ghost use Rattle.std.specs.Prelude.{◌≡◌, ◌≤◌, length};
-ghost use Rattle.text.specs.Bytes.{line_end};
-ghost use Rattle.text.specs.Cuts.{before_end, view_cut, cut_line, CutLong};
+ghost use Rattle.std.specs.Prelude.{◌≡◌, length};
+ghost use Rattle.text.specs.Cuts.{view_cut, cut_line, CutLong};
 
+use crate::span::{Class, span};
+
+// What is found at the front of a text. Three outcomes, and callers ask for each of them: `Result<Option<..>, usize>` would name none.
 #[derive(Clone, Copy)]
 pub enum Cut<'a> {
     // a line that CR LF ended, and what comes after these two
@@ -13,31 +15,12 @@ pub enum Cut<'a> {
     Stray(usize),
 }
 
-fn is_line_end(b: u8) -> bool
-    ensures { result ≡ line_end b }
-{
-    b == b'\r' || b == b'\n'
-}
-
-// How many bytes stand before the first CR or LF.
-fn before_end(s: &[u8]) -> usize
-    ensures is { result ≡ before_end s.now }
-    ensures within { result ≤ length s.now }
-{
-    for i in 0..s.len() {
-        if is_line_end(s[i]) {
-            return i;
-        }
-    }
-    s.len()
-}
-
 // Cuts a line off the front.
 pub fn cut_line<'a>(s: &'a [u8]) -> Cut<'a>
     ensures is { view_cut result ≡ cut_line s.now }
     ensures long { CutLong (length s.now) result }
 {
-    let n = before_end(s);
+    let n = span(s, Class::Line);
     if n >= s.len() {
         return Cut::Short;
     }

@@ -1,6 +1,6 @@
 // Numbers as digits, in base ten and sixteen: written without a needless zero, read with few digits.
-ghost use Rattle.std.specs.Prelude.{◌≡◌, ◌<◌, ◌≤◌, IfSome};
-ghost use Rattle.text.specs.Numerals.{radix, most_digits, digit_byte, numeral, digit_value, number_of};
+ghost use Rattle.std.specs.Prelude.{◌≡◌, ◌/◌, ◌%◌, ◌<◌, ◌≤◌, [], ◌∷◌, IfSome};
+ghost use Rattle.text.specs.Numerals.{radix, most_digits, digit_byte, numeral, digit_value, hex_pair, number_of};
 
 #[derive(Clone, Copy)]
 pub enum Base {
@@ -69,15 +69,31 @@ pub fn write_number<'a>(buf: &'a mut [u8; 20], n: usize, base: Base) -> &'a [u8]
 {
     let radix = base.radix();
     let mut rest = n;
-    let mut at: usize = 20;
-    while rest >= radix && at > 1 {
-        at -= 1;
+    for at in (0..20).rev() {
         buf[at] = digit_byte(rest % radix);
         rest /= radix;
+        if rest == 0 {
+            return &buf[at..];
+        }
     }
-    at -= 1;
-    buf[at] = digit_byte(rest % radix);
-    &buf[at..]
+    buf
+}
+
+// The byte that two hexadecimal digits stand for, letters in either case.
+pub fn hex_pair(a: u8, b: u8) -> Option<u8>
+    ensures { result ≡ hex_pair a b }
+{
+    let high = Base::Hexadecimal.digit_value(a)?;
+    let low = Base::Hexadecimal.digit_value(b)?;
+    Some(high * 16 + low)
+}
+
+// The two hexadecimal digits of a byte, letters in lower case.
+pub fn hex_digits(b: u8) -> [u8; 2]
+    ensures { result ≡ digit_byte (b / 16) ∷ digit_byte (b % 16) ∷ [] }
+{
+    let b = usize::from(b);
+    [digit_byte(b / 16), digit_byte(b % 16)]
 }
 
 // What a numeral is worth: at least one digit, and not too many.

@@ -7,6 +7,7 @@ ghost use Rattle.text.specs.Spans.{in_class};
 use crate::kind::{Kind, kind_of};
 use crate::value::is_blank;
 
+// Classes are values and no closures: contracts name each, and a closure would have to be told again at every call.
 #[derive(Clone, Copy)]
 pub enum Class {
     // A to Z
@@ -44,12 +45,7 @@ pub fn span(s: &[u8], class: Class) -> usize
     ensures is { result ≡ prefix_len (in_class class) s.now }
     ensures within { result ≤ length s.now }
 {
-    for i in 0..s.len() {
-        if !class.has(s[i]) {
-            return i;
-        }
-    }
-    s.len()
+    s.iter().take_while(|b| class.has(**b)).count()
 }
 
 // How many bytes stand before the first `mark`; all of them where there is none.
@@ -57,10 +53,5 @@ pub fn span_before(s: &[u8], mark: u8) -> usize
     ensures is { result ≡ before mark s.now }
     ensures within { result ≤ length s.now }
 {
-    for i in 0..s.len() {
-        if s[i] == mark {
-            return i;
-        }
-    }
-    s.len()
+    s.iter().take_while(|b| **b != mark).count()
 }

@@ -1,7 +1,10 @@
 // Values of fields: trimmed at both ends, and with one space for each run of spaces and tabs.
-ghost use Rattle.std.specs.Prelude.{◌≡◌, length};
+ghost use Rattle.std.specs.Prelude.{◌≡◌, ◌≤◌, length};
+ghost use Rattle.std.specs.List.{suffix_len};
 ghost use Rattle.text.specs.Bytes.{blank, placed};
 ghost use Rattle.text.specs.Trims.{trimmed_front, trimmed_back, trimmed, squeezed_byte, squeezed};
+
+use crate::span::{Class, span};
 
 // A space or a tab.
 pub fn is_blank(b: u8) -> bool
@@ -13,21 +16,21 @@ pub fn is_blank(b: u8) -> bool
 fn trim_front<'a>(v: &'a [u8]) -> &'a [u8]
     ensures { result.now ≡ trimmed_front v.now }
 {
-    let mut i: usize = 0;
-    while i < v.len() && is_blank(v[i]) {
-        i += 1;
-    }
-    &v[i..]
+    &v[span(v, Class::Blank)..]
+}
+
+// How many spaces and tabs stand at the end.
+fn blanks_behind(v: &[u8]) -> usize
+    ensures is { result ≡ suffix_len blank v.now }
+    ensures within { result ≤ length v.now }
+{
+    v.iter().rev().take_while(|b| is_blank(**b)).count()
 }
 
 fn trim_back<'a>(v: &'a [u8]) -> &'a [u8]
     ensures { result.now ≡ trimmed_back v.now }
 {
-    let mut n = v.len();
-    while n > 0 && is_blank(v[n - 1]) {
-        n -= 1;
-    }
-    &v[0..n]
+    &v[..v.len() - blanks_behind(v)]
 }
 
 // The value without the spaces and tabs at its ends, as a part of the caller's bytes.
@@ -54,6 +57,7 @@ pub fn squeeze(v: &mut [u8]) -> usize
 {
     let mut at: usize = 0;
     let mut run = false;
+    // By index: a byte is read ahead of where it is written in the same slice, which an iterator over it would hold.
     for i in 0..v.len() {
         let b = v[i];
         if let Some(x) = squeezed_byte(run, b) {

@@ -1,5 +1,6 @@
 -- A text cut where a test first fails, and when a function is what a relation says.
-use Rattle.std.proofs.Common.{◌≡◌, ℕ, Bool, true, false, not, T, [], ◌∷◌, ◌++◌, length, sym, refl, ap, ◌∙◌, subst, arith}
+use Rattle.std.proofs.Common.{◌≡◌, ℕ, Bool, true, not, T, [], ◌∷◌, ◌++◌, length, sym, refl, ap, ◌∙◌, subst, ⊎_elim, arith}
+use Rattle.std.proofs.lemmas.Bool.{cases_Bool}
 use Rattle.std.specs.List.{prefix_len}
 use Rattle.text.specs.Bytes.{Text, all}
 use Rattle.text.proofs.Passing.{is_true, is_false, and_l, and_r}
@@ -22,16 +23,14 @@ pub record Split (p : ℕ → Bool) (t : Text) : Type 0 where
   pub ends : T (stops p rest)
   pub joined : t ≡ front ++ rest
 
-split_more : (p : ℕ → Bool) (c : ℕ) (t : Text) (b : Bool) → p c ≡ b → Split p t → Split p (c ∷ t)
-unfolding all
-split_more p c t true e s = record { front = c ∷ s.front; rest = s.rest; passes = rw e s.passes; ends = s.ends; joined = ap (λ u. c ∷ u) s.joined }
-split_more p c t false e s = record { front = []; rest = c ∷ t; passes = tt; ends = rw e tt; joined = refl }
-
 -- every text is so
 pub split : (p : ℕ → Bool) (t : Text) → Split p t
 unfolding all
 split p [] = record { front = []; rest = []; passes = tt; ends = tt; joined = refl }
-split p (c ∷ t) = split_more p c t (p c) refl (split p t)
+split p (c ∷ t) =
+    let s = split p t in
+    ⊎_elim (λ e. record { front = c ∷ s.front; rest = s.rest; passes = rw e s.passes; ends = s.ends; joined = ap (λ u. c ∷ u) s.joined })
+    (λ e. record { front = []; rest = c ∷ t; passes = tt; ends = rw e tt; joined = refl }) (cases_Bool (p c))
 
 -- and its front is what is counted
 pub leading_at : (p : ℕ → Bool) (l s : Text) → T (all p l) → T (stops p s) → prefix_len p (l ++ s) ≡ length l

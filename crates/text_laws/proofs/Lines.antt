@@ -1,11 +1,11 @@
 -- A line is cut off a text as the laws say.
-use Rattle.std.proofs.Common.{◌≡◌, ℕ, ◌+◌, ◌<◌, ◌≤◌, Bool, cond, not, T, eqb, ◌⊎◌, [], ◌∷◌, ◌++◌, length, drop, sym, refl, ap, ◌∙◌, inl, inr, ⊎_elim, append-nil, arith}
+use Rattle.std.proofs.Common.{◌≡◌, ◌+◌, ◌<◌, ◌≤◌, cond, T, eqb, ◌⊎◌, [], ◌∷◌, ◌++◌, length, drop, sym, refl, ap, ◌∙◌, inl, inr, ⊎_elim, append-nil, arith}
 use Rattle.std.proofs.lemmas.List.{length-append, get_or_at, get_or-append-add, take_at, drop_at, drop-drop}
 use Rattle.std.proofs.lemmas.Bool.{le-leb, lt-leb, ne_eqb, eqb-true, or_cases, cases_eq, not-false}
 use Rattle.text.specs.Bytes.{Text, clean, line_end}
 use Rattle.text.specs.Cuts.{LineCut, whole, short, stray, cut_end, cut_line}
 use Rattle.text_laws.specs.Laws.{Iff, WholeLine, ShortLine, StrayLine, Strays, lone_lf, lone_cr}
-use Rattle.text.proofs.Passing.{is_false}
+use Rattle.text.proofs.Passing.{is_false, not_end}
 use Rattle.text_laws.proofs.Fronts.{exactly, stops, split, leading_at}
 
 -- what the laws say of each cut
@@ -13,9 +13,6 @@ abbrev Found : Text → LineCut → Type 0
 Found t (whole l rest) = T (clean l) × (t ≡ l ++ (13 ∷ 10 ∷ rest))
 Found t short = T (clean t) ⊎ ((l : Text) × T (clean l) × (t ≡ l ++ (13 ∷ [])))
 Found t (stray n) = (l s : Text) × T (clean l) × (length l ≡ n) × (t ≡ l ++ s) × Strays s
-
-abbrev not_end : ℕ → Bool
-not_end c = not (line_end c)
 
 -- the cut after a clean text l: where s comes behind a CR, and where s comes next
 abbrev cut_behind : Text → Text → LineCut

@@ -1,5 +1,6 @@
 -- A squeezed value is what the laws say.
-use Rattle.std.proofs.Common.{◌≡◌, ℕ, Bool, true, false, not, T, [], ◌∷◌, ◌++◌, refl, ap, ◌∙◌}
+use Rattle.std.proofs.Common.{◌≡◌, ℕ, true, not, T, [], ◌∷◌, ◌++◌, refl, ap, ◌∙◌, ⊎_elim}
+use Rattle.std.proofs.lemmas.Bool.{cases_Bool}
 use Rattle.text.specs.Bytes.{Text, blank, all}
 use Rattle.text.specs.Trims.{squeezed_after, squeezed}
 use Rattle.text_laws.specs.Laws.{blank_first, SqueezesTo, none, byte, run, Squeezes}
@@ -26,13 +27,11 @@ more c t v b none = (32 ∷ [], run [] [] b tt tt none)
 more c t v b (byte {c = d} {t = u} {v = w} h s) = (32 ∷ d ∷ w, run [] (d ∷ u) b tt h (byte h s))
 more c t v b (run {c = d} ds u {v = w} e es h s) = (32 ∷ w, run (d ∷ ds) u b (and_i (blank d) (all blank ds) e es) h s)
 
-some_more : (c : ℕ) (t : Text) (b : Bool) → blank c ≡ b → (v : Text) × SqueezesTo t v → (w : Text) × SqueezesTo (c ∷ t) w
-some_more c t true e s = more c t s.0 (rw e tt) s.1
-some_more c t false e s = (c ∷ s.0, byte (rw e tt) s.1)
-
 some : (t : Text) → (v : Text) × SqueezesTo t v
 some [] = ([], none)
-some (c ∷ t) = some_more c t (blank c) refl (some t)
+some (c ∷ t) =
+    let s = some t in
+    ⊎_elim (λ e. more c t s.0 (rw e tt) s.1) (λ e. (c ∷ s.0, byte (rw e tt) s.1)) (cases_Bool (blank c))
 
 pub squeezes : Squeezes
 squeezes = exactly squeezed SqueezesTo some only

@@ -4,50 +4,36 @@
 ghost use Rattle.text_laws.specs.Laws.{WholeLine, ShortLine, StrayLine, Trims, Squeezes, ReadBack, ExactNumeral};
 
 // A line is cut off exactly where the text is a clean line, CR LF and the rest.
-pub fn whole_line() -> u8
+pub fn whole_line()
     ensures { WholeLine }
-{
-    0
-}
+{}
 
 // A text is short of a line exactly where it is clean, or clean but for a last CR.
-pub fn short_line() -> u8
+pub fn short_line()
     ensures { ShortLine }
-{
-    0
-}
+{}
 
 // A CR or LF is stray exactly where only clean bytes stand before it and it ends no line.
-pub fn stray_line() -> u8
+pub fn stray_line()
     ensures { StrayLine }
-{
-    0
-}
+{}
 
 // A trimmed value is what is left when all blanks at both ends are taken away.
-pub fn trims() -> u8
+pub fn trims()
     ensures { Trims }
-{
-    0
-}
+{}
 
 // A squeezed value has one space for each run of blanks, and is else as it was.
-pub fn squeezes() -> u8
+pub fn squeezes()
     ensures { Squeezes }
-{
-    0
-}
+{}
 
 // A number of few enough digits is read back as it was written.
-pub fn read_back() -> u8
+pub fn read_back()
     ensures { ReadBack }
-{
-    0
-}
+{}
 
 // A numeral of a number of 64 bits has some digits, is worth that number, and has no needless zero.
-pub fn exact_numeral() -> u8
+pub fn exact_numeral()
     ensures { ExactNumeral }
-{
-    0
-}
+{}

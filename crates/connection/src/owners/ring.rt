@@ -1,7 +1,8 @@
 // The ring is read and written at its two ends only.
-ghost use Rattle.std.specs.Prelude.{◌≡◌, [], length, nat_le, nat_lt};
-ghost use Rattle.connection.specs.Owners.{owner_by, owner_of, queued, first_of, behind, pushed};
+ghost use Rattle.std.specs.Prelude.{◌≡◌, ◌≤◌, [], length, drop, nat_le, slice_get};
+ghost use Rattle.connection.specs.Owners.{owner_by, push_answer, pushed};
 
+use super::method::Method;
 use super::{Owner, Owners};
 
 impl Owner {
@@ -9,39 +10,32 @@ impl Owner {
     pub fn new(client: usize, number: u64, method: &[u8]) -> Option<Owner>
         ensures { owner_by client number method.now result }
     {
-        let method_len = method.len();
-        if method_len > 16 {
-            return None;
-        }
-        let mut letters = [0u8; 16];
-        text::output::put(&mut letters, method);
+        let method = Method::new(method)?;
         Some(Owner {
             client,
             number,
-            letters,
-            method_len,
+            method,
         })
     }
 
     // The method of the request.
     pub fn method(&self) -> &[u8]
-        ensures { result.now ≡ (owner_of self.now).method }
+        ensures is { result.now ≡ self.now.method }
+        ensures within { length result.now ≤ 16 }
     {
-        let n = self.method_len.min(16);
-        &self.letters[0..n]
+        self.method.as_bytes()
     }
 }
 
 impl Owners {
     // Nobody waits.
     pub fn new() -> Owners
-        ensures { queued result ≡ [] }
+        ensures { result ≡ [] }
     {
         let nobody = Owner {
             client: 0,
             number: 0,
-            letters: [0; 16],
-            method_len: 0,
+            method: Method::default(),
         };
         Owners {
             places: [nobody; 64],
@@ -52,28 +46,29 @@ impl Owners {
 
     // Whether as many wait as may.
     pub fn is_full(&self) -> bool
-        ensures { result ≡ nat_le 64 (length (queued self.now)) }
+        ensures is { result ≡ nat_le 64 (length self.now) }
+        ensures within { length self.now ≤ 64 }
     {
         self.count == 64
     }
 
-    // One more waits behind the others, where fewer than 64 do; says whether.
-    pub fn push(&mut self, owner: Owner) -> bool
-        ensures told { result ≡ nat_lt (length (queued self.old)) 64 }
-        ensures after { queued self.new ≡ pushed (queued self.old) owner }
+    // One more waits behind the others, where fewer than 64 do; else the owner is given back.
+    pub fn push(&mut self, owner: Owner) -> Result<(), Owner>
+        ensures told { result ≡ push_answer self.old owner }
+        ensures after { self.new ≡ pushed self.old owner }
     {
         if self.count == 64 {
-            return false;
+            return Err(owner);
         }
         let at = (self.first + self.count) % 64;
         self.places[at] = owner;
         self.count += 1;
-        true
+        Ok(())
     }
 
     // The first that waits.
     pub fn first(&self) -> Option<Owner>
-        ensures { result ≡ first_of (queued self.now) }
+        ensures { result ≡ slice_get self.now 0 }
     {
         if self.count == 0 {
             return None;
@@ -83,8 +78,8 @@ impl Owners {
 
     // The first leaves.
     pub fn pop(&mut self) -> Option<Owner>
-        ensures value { result ≡ first_of (queued self.old) }
-        ensures after { queued self.new ≡ behind (queued self.old) }
+        ensures value { result ≡ slice_get self.old 0 }
+        ensures after { self.new ≡ drop 1 self.old }
     {
         if self.count == 0 {
             return None;

@@ -1,16 +1,7 @@
-use Rattle.std.proofs.Common.{sym}
-use Rattle.text.proofs.Places.{wrote_none, wrote_as, wrote_more}
-use Rattle.message.specs.Fields.{field_lines, lines_of}
-use Rattle.message.proofs.Lines.{field_bytes_more, field_bytes_all}
+use Rattle.text.proofs.Places.{wrote_as, wrote_more}
+use Rattle.message.proofs.Lines.{field_bytes_more}
 use Rattle.message.proofs.field.put_fields.Goals as goal
 
-pub loop-f-init : goal.loop-f-init
-unfolding field_lines lines_of
-loop-f-init c = wrote_none c.args.out.now
-
 pub loop-f-preserved : goal.loop-f-preserved
-loop-f-preserved c =
-    wrote_as _ _ _ (sym (field_bytes_more c.args.fields.now c.loop-f.f-index _ c.loop-f-test.true)) (wrote_more _ _ _ _ _ _ _ c.loop-f.invariant c.put_line-n.ensures)
-
-pub returns : goal.returns
-returns c = wrote_as _ _ _ (field_bytes_all c.args.fields.now c.loop-f.f-index c.loop-f-test.false) c.loop-f.invariant
+loop-f-preserved g c =
+    wrote_as _ _ _ (field_bytes_more g.F.FieldLine.view c.args.fields.now c.loop-f.f-index c.f-item.result c.loop-f-test.true c.f-item.is) (wrote_more _ _ _ _ _ _ _ c.loop-f.invariant c.put_line-n.ensures)

@@ -1,11 +1,9 @@
-use Rattle.std.proofs.Common.{arith}
-use Rattle.text.specs.Bytes.{lowered, among}
+use Rattle.std.proofs.Common.{rules, tests}
+use Rattle.std.proofs.lemmas.Iterator.{YieldsList-from_slice}
+use Rattle.std.proofs.lemmas.Iterator.Search.{any_from_yields_List}
+use Rattle.text.specs.Bytes.{lowered, among, same_no_case}
 use Rattle.message.proofs.hop.is_hop_by_hop.Goals as goal
 
-pub returns-then-eq_ignore_case-8 : goal.returns-then-eq_ignore_case-8
+pub returns : goal.returns
 unfolding among lowered
-returns-then-eq_ignore_case-8 c = grind arith
-
-pub returns-else-eq_ignore_case-8 : goal.returns-else-eq_ignore_case-8
-unfolding among lowered
-returns-else-eq_ignore_case-8 c = grind arith
+returns c = any_from_yields_List (λ x. same_no_case c.args.name.now x.now) _ _ c.any.result c.any.ensures.ran (YieldsList-from_slice _ c.iter.ensures.rest) (λ x b q k. search (rules, tests))

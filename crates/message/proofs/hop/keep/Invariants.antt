@@ -1,8 +1,9 @@
-use Rattle.std.proofs.Common.{◌≡◌, ◌≤◌, length, take}
-use Rattle.message.specs.Hops.{kept_of, held_all}
-use Rattle.message.proofs.Hopping.{kept_so_far}
+use Rattle.std.proofs.Common.{◌≡◌, length, map, take}
+use Rattle.message.specs.SentViews.{view_sent_field, view_sent_fields}
 use Rattle.message.proofs.hop.keep.Given as goal
 
--- what stands in the table and what is kept of the lines that are left give the whole
+-- the front of the table holds what was given so far
 abbrev pub invariant-loop-line : goal.invariant-loop-line
-invariant-loop-line l = (l.count ≤ length l.table) × (kept_so_far l.table l.count l.lines l.line-index ≡ take (length l.initial.table) (kept_of (held_all l.lines)))
+invariant-loop-line l =
+    (goal.iterator-loop-line).can_next l.line-iterator × (goal.iterator-loop-line).is_finite l.line-iterator
+    × (l.count ≡ length l.yielded) × (view_sent_fields (take l.count l.table) ≡ map (λ x. view_sent_field x.now.field) l.yielded)

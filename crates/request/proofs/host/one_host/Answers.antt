@@ -32,7 +32,7 @@ first (Some g) f next e = absurd (both_ways _ (sym e) refl)
 pub returns-then-is_some : goal.returns-then-is_some
 returns-then-is_some c =
     let o = c.loop-line.host in
-    sym (one (view_one o) c.args.lines.now c.loop-line.line-index _ c.loop-line-test.true ∙ cond-true _ _ _ (sym c.if-eq_ignore_case.ensures) ∙ again o _ _ c.if-is_some.ensures) ∙ c.loop-line.invariant
+    ap Err c.at.ensures ∙ sym (one (view_one o) c.args.lines.now c.loop-line.line-index _ c.loop-line-test.true ∙ cond-true _ _ _ (sym c.if-eq_ignore_case.ensures) ∙ again o _ _ c.if-is_some.ensures) ∙ c.loop-line.invariant
 
 pub loop-line-preserved : goal.loop-line-preserved
 loop-line-preserved c =

@@ -1,25 +1,26 @@
-use Rattle.std.proofs.Common.{◌≡◌, ℕ, ◌+◌, ◌<◌, ◌≤◌, cond, List, map, length, get_or, drop, Some, None, sym, ap, ◌∙◌, Bor}
-use Rattle.std.proofs.lemmas.List.{drop_more, drop_all}
-use Rattle.std.proofs.lemmas.Bool.{cond-true, cond-false}
+use Rattle.std.proofs.Common.{◌≡◌, ℕ, ◌+◌, suc, Bool, true, false, not, cond, ltb, List, [], ◌∷◌, length, map, Some, None, Option, refl, sym, ap, zero-add, ◌∙◌, arith, rules, Bor}
+use Rattle.std.proofs.lemmas.Bool.Decides.{nat_tests}
+use borrow.Author.Tests.{tests}
+use Rattle.std.specs.List.{position_or_len}
+use Rattle.std.proofs.lemmas.Iterator.{YieldsList-from_slice}
+use Rattle.std.proofs.lemmas.Iterator.Search.{position_from_yields_List}
 use Rattle.text.specs.Bytes.{Text, same_no_case}
 use Rattle.request.specs.Hosts.{server_from}
 use Rattle.request.proofs.host.server_named.Goals as goal
 
-one : (name : Text) (ts : List (Bor Text)) (i : ℕ) (d : Bor Text) → i < length ts → server_from i name (map (λ x. x.now) (drop i ts)) ≡ cond (same_no_case (get_or ts i d).now name) (Some i) (server_from (i + 1) name (map (λ x. x.now) (drop (i + 1) ts)))
+-- one name more in front
+one : (k n m : ℕ) (b : Bool) (o : Option ℕ) → cond (ltb n m) (Some (k + 1 + n)) None ≡ o → cond (ltb (cond (not b) (1 + n) 0) (suc m)) (Some (k + cond (not b) (1 + n) 0)) None ≡ cond b (Some k) o
+one k n m true o e = grind (arith, nat_tests)
+one k n m false o e = let far : k + 1 + n ≡ k + (1 + n) = omega arith in let less : ltb (1 + n) (suc m) ≡ ltb n m = grind (arith, nat_tests) in rw less (ap (λ j. cond (ltb n m) (Some j) None) (sym far) ∙ e)
+
+-- the place of the first of that name, counted from k
+placed : (k : ℕ) (name : Text) (ts : List (Bor Text)) → let n : ℕ = position_or_len (λ t. same_no_case t.now name) ts in cond (ltb n (length ts)) (Some (k + n)) None ≡ server_from k name (map (λ x. x.now) ts)
 unfolding server_from
-one name ts i d h = ap (λ ys. server_from i name (map (λ x. x.now) ys)) (drop_more ts i d h)
-
-none_left : (name : Text) (ts : List (Bor Text)) (i : ℕ) → length ts ≤ i → server_from i name (map (λ x. x.now) (drop i ts)) ≡ None
-unfolding server_from
-none_left name ts i h = ap (λ ys. server_from i name (map (λ x. x.now) ys)) (drop_all i ts h)
-
-pub returns-then-eq_ignore_case : goal.returns-then-eq_ignore_case
-returns-then-eq_ignore_case c =
-    sym (one c.args.name.now c.args.servers.now c.loop-i.i _ c.loop-i-test.true ∙ cond-true _ _ _ (sym c.if-eq_ignore_case.ensures)) ∙ c.loop-i.invariant
-
-pub loop-i-preserved : goal.loop-i-preserved
-loop-i-preserved c =
-    sym (one c.args.name.now c.args.servers.now c.loop-i.i _ c.loop-i-test.true ∙ cond-false _ _ _ (sym c.if-eq_ignore_case.ensures)) ∙ c.loop-i.invariant
+placed k name [] = refl
+placed k name (t ∷ ts) = one k (position_or_len (λ t. same_no_case t.now name) ts) (length ts) (same_no_case t.now name) _ (placed (k + 1) name ts)
 
 pub returns : goal.returns
-returns c = sym (none_left c.args.name.now c.args.servers.now c.loop-i.i c.loop-i-test.false) ∙ c.loop-i.invariant
+returns c =
+    let ts = c.args.servers.now in
+    let name = c.args.name.now in
+    position_from_yields_List (λ t. same_no_case t.now name) _ _ c.position.result c.position.ensures.ran (YieldsList-from_slice ts cc) (λ x b q k. search (rules, tests)) ∙ simp zero-add at (placed 0 name ts)

@@ -1,4 +1,4 @@
-use Rattle.std.proofs.Common.{◌≡◌, ℕ, ◌+◌, ◌-◌, ◌≤◌, min, true, eqb, List, map, length, take, Some, None, Ok, Err, Option, Result, sym, refl, ap, ◌∙◌, subst, ⊎_elim, le_trans, arith, lit≤}
+use Rattle.std.proofs.Common.{◌≡◌, ℕ, ◌+◌, ◌-◌, ◌≤◌, min, true, eqb, List, length, take, Some, None, Ok, Err, Option, Result, sym, refl, ap, ◌∙◌, subst, ⊎_elim, le_trans, arith, lit≤}
 use native.Mathlib.Nat.{sub-zero}
 use Rattle.std.proofs.lemmas.List.{length-take, take_all}
 use Rattle.std.proofs.lemmas.Bool.{cases_lt, le-leb, eq-eqb, and_from}
@@ -6,12 +6,13 @@ use Rattle.text.specs.Bytes.{Text}
 use Rattle.message.specs.declared.fault.Flaw.{Flaw}
 use Rattle.request.specs.Canonical.{body_limit}
 use Rattle.request.specs.Heads.{window, judged, Sound, SoundDue}
-use Rattle.request.specs.Reading.{After, memory_size, placed_at, on_judged, head_step, fits_head, fits_due, fits_state, fits_in, fed_by}
+use Rattle.request.specs.Hosts.{names_of}
+use Rattle.request.specs.Reading.{After, memory_size, placed_at, in_body, on_judged, head_step, fits_head, fits_due, fits_state, fits_in, fed_by}
 use Rattle.request.specs.declared.head.Due.{Due}
 use Rattle.request.specs.declared.head.Due.TheVariants.{Length, Chunks}
 use Rattle.request.specs.declared.head.Judged.{Judged}
 use Rattle.request.specs.declared.reading.Reading.{Reading}
-use Rattle.request.specs.declared.reading.Reading.TheVariants.{InHead, InBody, Refused}
+use Rattle.request.specs.declared.reading.Reading.TheVariants.{InHead, Refused}
 use Rattle.request.proofs.reading.feed_head.Goals as goal
 
 -- as much of a piece as there is room for
@@ -24,17 +25,11 @@ cut_is n k xs e =
 
 -- the sums, over any window
 module _ (filled n w size : ℕ) (piece : Text) (room : filled ≤ w) (less : w ≤ size) (e : n ≡ min (length piece) (w - filled)) where
-  stored_fits : filled + length (take (n - 0) piece) ≤ size
-  stored_fits = simp length-take (omega arith)
-
   cut_long : n ≡ length (take (w - filled) piece)
   cut_long = simp length-take (omega arith)
 
   in_window : filled + n ≤ w
   in_window = omega arith
-
-  in_memory : filled + n ≤ size
-  in_memory = omega arith
 
   in_piece : n ≤ length piece
   in_piece = omega arith
@@ -64,11 +59,11 @@ due_fits : (size len : ℕ) (d : Due) → SoundDue d → len + body_limit ≤ si
 due_fits size len (Length n) h k = le-leb (len + n) size (omega arith)
 due_fits size len (Chunks c) h k = le-leb len size (omega arith)
 
-judged_fits : (size n : ℕ) (j : Judged) → size ≡ memory_size → n ≤ window → Sound n (Ok (Some j)) → fits_in size (InBody j.head j.head.len j.due) ≡ true
+judged_fits : (size n : ℕ) (j : Judged) → size ≡ memory_size → n ≤ window → Sound n (Ok (Some j)) → fits_in size (in_body j.head j.head.len j.due) ≡ true
 judged_fits size n j e h s =
     let all : j.head.len + body_limit ≤ size = omega (arith, head_and_body, s.2) in
     let here : j.head.method + 1 + j.head.target ≤ size = omega (arith, s.0, s.1, s.2, window_less) in
-    fits_state_so size (InBody j.head j.head.len j.due) e (and_from (fits_head size j.head) (fits_due size j.head.len j.due) (le-leb _ size here) (due_fits size j.head.len j.due s.3 all))
+    fits_state_so size (in_body j.head j.head.len j.due) e (and_from (fits_head size j.head) (fits_due size j.head.len j.due) (le-leb _ size here) (due_fits size j.head.len j.due s.3 all))
 
 -- how much of a piece belongs to a head that ends in it
 sub_within : (len filled n seen long : ℕ) → len ≤ seen → seen ≤ filled + n → n ≤ long → len - filled ≤ long
@@ -77,22 +72,10 @@ sub_within len filled n seen long a b c = omega arith
 seen_long : (n : ℕ) (xs : Text) → length (take (n - 0) xs) ≤ n
 seen_long n xs = simp length-take (omega arith)
 
-pub overflow_sub-filled : goal.overflow_sub-filled
-unfolding window
-overflow_sub-filled c = c.requires.0
-
-pub store-requires : goal.store-requires
-unfolding window
-store-requires c = rw c.requires.1 (stored_fits c.args.filled c.min-n.result window memory_size c.args.piece.now c.requires.0 window_less c.min-n.ensures)
-
-pub slice_bounds-judge_head-end : goal.slice_bounds-judge_head-end
-unfolding window
-slice_bounds-judge_head-end c = rw (c.store.auto.memory, c.requires.1) (in_memory c.args.filled c.min-n.result window memory_size c.args.piece.now c.requires.0 window_less c.min-n.ensures)
-
 pub returns-in-Err : goal.returns-in-Err
 unfolding window
 returns-in-Err c =
-    let so = step_so (map (λ x. x.now) c.args.servers.now) c.args.filled c.min-n.result c.args.memory.now c.args.piece.now c.store.new.memory c.requires.0 c.min-n.ensures c.store.ensures (Err c.in-Err.flaw) c.in-Err.ensures.is in
+    let so = step_so (names_of c.args.servers.now) c.args.filled c.min-n.result c.args.memory.now c.args.piece.now c.store.new.memory c.requires.0 c.min-n.ensures c.store.ensures (Err c.in-Err.flaw) c.in-Err.ensures.is in
     record {
       told = ap fed_by so;
       held = ap (λ (a : After). a.memory) so;
@@ -104,7 +87,7 @@ pub returns-in-Ok-None : goal.returns-in-Ok-None
 unfolding window
 returns-in-Ok-None c =
     let none : c.judge_head.result ≡ Ok None = cc in
-    let so = step_so (map (λ x. x.now) c.args.servers.now) c.args.filled c.min-n.result c.args.memory.now c.args.piece.now c.store.new.memory c.requires.0 c.min-n.ensures c.store.ensures (Ok None) (sym none ∙ c.judge_head.ensures.is) in
+    let so = step_so (names_of c.args.servers.now) c.args.filled c.min-n.result c.args.memory.now c.args.piece.now c.store.new.memory c.requires.0 c.min-n.ensures c.store.ensures (Ok None) (sym none ∙ c.judge_head.ensures.is) in
     let there = in_window c.args.filled c.min-n.result window memory_size c.args.piece.now c.requires.0 window_less c.min-n.ensures in
     record {
       told = ap fed_by so;
@@ -119,13 +102,13 @@ returns-in-Ok-Some c =
     let j = c.in-Ok-Some.judged in
     let seen = take (c.args.filled + c.min-n.result - 0) c.store.new.memory in
     let some : c.judge_head.result ≡ Ok (Some j) = cc in
-    let so = step_so (map (λ x. x.now) c.args.servers.now) c.args.filled c.min-n.result c.args.memory.now c.args.piece.now c.store.new.memory c.requires.0 c.min-n.ensures c.store.ensures (Ok (Some j)) (sym some ∙ c.judge_head.ensures.is) in
+    let so = step_so (names_of c.args.servers.now) c.args.filled c.min-n.result c.args.memory.now c.args.piece.now c.store.new.memory c.requires.0 c.min-n.ensures c.store.ensures (Ok (Some j)) (sym some ∙ c.judge_head.ensures.is) in
     let sound : Sound (length seen) (Ok (Some j)) = subst (λ (r : Result (Option Judged) Flaw). Sound (length seen) r) some c.judge_head.ensures.sound in
     let there = in_window c.args.filled c.min-n.result window memory_size c.args.piece.now c.requires.0 window_less c.min-n.ensures in
     let long = seen_long (c.args.filled + c.min-n.result) c.store.new.memory in
     let less = in_piece c.args.filled c.min-n.result window memory_size c.args.piece.now c.requires.0 window_less c.min-n.ensures in
     record {
-      told = ap (λ k. record { reading = InBody j.head j.head.len j.due; taken = k }) c.saturating_sub.ensures ∙ ap fed_by so;
+      told = ap (λ k. record { reading = in_body j.head j.head.len j.due; taken = k }) c.saturating_sub.ensures ∙ ap fed_by so;
       held = ap (λ (a : After). a.memory) so;
       fits = judged_fits (length c.store.new.memory) (length seen) j (c.store.auto.memory ∙ c.requires.1) (le_trans long there) sound;
       within = rw c.saturating_sub.ensures (sub_within j.head.len c.args.filled c.min-n.result (length seen) (length c.args.piece.now) sound.2 long less);

@@ -1,23 +1,17 @@
-use Rattle.std.proofs.Common.{◌+◌, drop, sym, ap, ◌∙◌, arith}
-use Rattle.std.proofs.lemmas.Bool.{cond-true, cond-false}
-use Rattle.request.specs.Targets.{tokens, width, good_token, bad_token}
-use Rattle.request.proofs.Paths.{bad_token_next, bad_token_none}
+use Rattle.std.proofs.Common.{subst, sym, arith}
+use Rattle.request.specs.Targets.{tokens}
+use Rattle.request.specs.declared.target.Tokens.{Tokens}
+use Rattle.request.proofs.Paths.{Left, left_all, left_good, left_bad, left_none}
 use Rattle.request.proofs.target.bad_token.Goals as goal
 
-pub returns-then-not-is_good : goal.returns-then-not-is_good
-returns-then-not-is_good c =
-    let t = c.args.path.now in
-    let bad = ap good_token (sym c.read-token.ensures.is) ∙ sym c.if-not-is_good.ensures in
-    record { is = sym (bad_token_next t c.loop-i.i c.loop-i-test.true ∙ cond-false _ _ _ bad) ∙ c.loop-i.invariant.1; within = c.loop-i.invariant.0 }
+pub loop-token-init : goal.loop-token-init
+loop-token-init c = subst (λ (s : Tokens). Left c.args.path.now 0 (tokens s.0.now)) (sym c.into_iter-token-iterator.ensures.into_iter_gives) (left_all c.args.path.now)
 
-pub loop-i-preserved : goal.loop-i-preserved
-loop-i-preserved c =
-    let t = c.args.path.now in
-    let i = c.loop-i.i in
-    let is = c.read-token.ensures.is in
-    let good = ap good_token (sym is) ∙ sym c.if-not-is_good.ensures in
-    let far = ap (λ n. i + n) (c.width-i.ensures ∙ ap width is) in
-    (omega (arith, c.read-token.ensures.within, c.width-i.ensures), ap (λ k. bad_token k (tokens (drop k t))) far ∙ sym (bad_token_next t i c.loop-i-test.true ∙ cond-true _ _ _ good) ∙ c.loop-i.invariant.1)
+pub loop-token-preserved : goal.loop-token-preserved
+loop-token-preserved c = left_good _ _ _ _ _ _ c.loop-token.invariant c.in-Some.ensures.steps c.if-not-is_good.ensures c.width-at.ensures
+
+pub returns-then-not-is_good : goal.returns-then-not-is_good
+returns-then-not-is_good c = record { is = left_bad _ _ _ _ _ c.loop-token.invariant c.in-Some.ensures.steps c.if-not-is_good.ensures; within = omega (arith, c.loop-token.invariant.within) }
 
 pub returns : goal.returns
-returns c = record { is = sym (bad_token_none c.args.path.now c.loop-i.i c.loop-i-test.false) ∙ c.loop-i.invariant.1; within = tt }
+returns c = record { is = left_none _ _ _ c.loop-token.invariant c.in-None.ensures.steps.0; within = tt }

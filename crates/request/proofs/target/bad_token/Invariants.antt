@@ -1,10 +1,6 @@
-use Rattle.std.proofs.Common.{◌≡◌, ◌-◌, ◌≤◌, length, drop}
-use Rattle.request.specs.Targets.{bad_token, tokens}
+use Rattle.request.specs.Targets.{tokens}
+use Rattle.request.proofs.Paths.{Left}
 use Rattle.request.proofs.target.bad_token.Given as goal
 
--- the tokens that are left decide what all decide
-abbrev pub invariant-loop-i : goal.invariant-loop-i
-invariant-loop-i l = (l.i ≤ length l.path) × (bad_token l.i (tokens (drop l.i l.path)) ≡ bad_token 0 (tokens l.path))
-
-abbrev pub decreases-loop-i : goal.decreases-loop-i
-decreases-loop-i l = length l.path - l.i
+abbrev pub invariant-loop-token : goal.invariant-loop-token
+invariant-loop-token l = Left l.path l.at (tokens l.token-iterator.0.now)

@@ -1,6 +1,5 @@
 use Rattle.request_laws.proofs.FirstFaults.{fault_is_first}
-use Rattle.request_laws.proofs.Refused.{refused}
 use Rattle.request_laws.proofs.fault.fault_is_first.Goals as goal
 
 pub returns : goal.returns
-returns c = fault_is_first refused
+returns c = fault_is_first

@@ -1,5 +1,5 @@
+use Rattle.request_laws.proofs.TargetFaults.{targets_read}
 use Rattle.request_laws.proofs.target.targets_read.Goals as goal
-use Rattle.request_laws.proofs.Targets.{targets_read}
 
 pub returns : goal.returns
 returns c = targets_read

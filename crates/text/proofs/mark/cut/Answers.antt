@@ -1,21 +1,21 @@
-use Rattle.std.proofs.Common.{◌+◌, ◌-◌, length, take, drop, Some, sym, ap, ◌∙◌, arith}
-use native.Mathlib.Nat.{sub-zero}
+use Rattle.std.proofs.Common.{◌==◌, ◌+◌, take, Some, ap, ◌∙◌, rules}
+use Rattle.std.specs.Option.{option_map}
+use Rattle.std.proofs.lemmas.Iterator.{YieldsList-from_slice}
+use Rattle.std.proofs.lemmas.Iterator.Search.{position_from_yields_List}
 use Rattle.std.proofs.lemmas.List.{take_rest}
-use Rattle.text.specs.Marks.{cut_at}
-use Rattle.text.proofs.Marking.{behind_none, cut_here, cut_later, cut_nowhere}
+use Rattle.text.proofs.Marking.{cut_found}
 use Rattle.text.proofs.mark.cut.Goals as goal
 
-pub loop-i-init : goal.loop-i-init
-loop-i-init c = behind_none (cut_at c.args.mark c.args.s.now)
-
-pub returns-then-s-i : goal.returns-then-s-i
-returns-then-s-i c =
+pub returns-in_err-i : goal.returns-in_err-i
+returns-in_err-i c =
     let s = c.args.s.now in
-    let i = c.loop-i.i in
-    ap (λ n. Some (take n s, take (length s - (i + 1)) (drop (i + 1) s))) (sub-zero i) ∙ ap (λ t. Some (take i s, t)) (take_rest s (i + 1)) ∙ sym (cut_here c.args.mark s i (omega arith) c.if-s-i.true) ∙ c.loop-i.invariant
-
-pub loop-i-preserved : goal.loop-i-preserved
-loop-i-preserved c = sym (cut_later c.args.mark c.args.s.now c.loop-i.i (omega arith) c.if-s-i.false) ∙ c.loop-i.invariant
+    let m = c.args.mark in
+    ap (option_map (λ p. (p.0.now, p.1.now))) c.from_residual.ensures
+    ∙ cut_found m s _ (position_from_yields_List (λ b. b == m) _ _ _ c.in_err-i.ensures.ran (YieldsList-from_slice s c.iter.ensures.rest) (λ x b q k. search rules))
 
 pub returns : goal.returns
-returns c = sym (cut_nowhere c.args.mark c.args.s.now _ c.loop-i.i (omega arith)) ∙ c.loop-i.invariant
+returns c =
+    let s = c.args.s.now in
+    let m = c.args.mark in
+    let i = c.in_ok-i.i in
+    ap (λ t. Some (take i s, t)) (take_rest s (i + 1)) ∙ cut_found m s (Some i) (position_from_yields_List (λ b. b == m) _ _ _ c.in_ok-i.ensures.ran (YieldsList-from_slice s c.iter.ensures.rest) (λ x b q k. search rules))

@@ -1,9 +1,9 @@
-use Rattle.std.proofs.Common.{◌-◌, length}
+use Rattle.std.proofs.Common.{length}
 use Rattle.message.proofs.Chunks.{Going}
 use Rattle.message.proofs.chunked.Chunk.feed.Given as goal
 
-abbrev pub invariant-loop-taken : goal.invariant-loop-taken
-invariant-loop-taken l = Going l.initial.chunk l.initial.out l.piece l.chunk l.out l.written l.taken
+abbrev pub invariant-loop-byte : goal.invariant-loop-byte
+invariant-loop-byte l = Going l.initial.chunk l.initial.out l.piece l.chunk l.out l.written l.rest
 
-abbrev pub decreases-loop-taken : goal.decreases-loop-taken
-decreases-loop-taken l = length l.piece - l.taken
+abbrev pub decreases-loop-byte : goal.decreases-loop-byte
+decreases-loop-byte l = length l.rest

@@ -10,4 +10,4 @@ unfolding lines_of
 one_line m t = simp append_assoc
 
 pub returns : goal.returns
-returns c = wrote_as _ _ _ (one_line c.args.self.now.method.now c.args.self.now.target.now) (wrote_more _ _ _ _ _ _ _ (wrote_more _ _ _ _ _ _ _ (wrote_more _ _ _ _ _ _ _ c.put-n.ensures c.put.ensures) c.put-2.ensures) c.put-3.ensures)
+returns g c = wrote_as _ _ _ (one_line c.args.self.now.method.now c.args.self.now.target.now) (wrote_more _ _ _ _ _ _ _ (wrote_more _ _ _ _ _ _ _ (wrote_more _ _ _ _ _ _ _ c.put-n.ensures c.put.ensures) c.put-2.ensures) c.put-3.ensures)

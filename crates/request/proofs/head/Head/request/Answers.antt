@@ -21,9 +21,11 @@ whole head end e k memory ls kept q f there room read keeps parts is =
     ∙ ap (with_fields head end memory) (read ∙ ap (λ m. fields_in m (take (head.len - 0) memory) head.fields) room ∙ ap (λ n. fields_in field_limit (take n memory) head.fields) (sub-zero head.len))
     ∙ sym (cond-true (holds (length memory) head end) _ _ there)
 
-pub returns-in-Ended : goal.returns-in-Ended
-returns-in-Ended c =
+pub returns : goal.returns
+returns c =
+    let read = rw c.in-Ok-Some.field-0-is at c.in-Ok-Some.ensures.is in
+    let within = rw c.in-Ok-Some.field-0-is at c.in-Ok-Some.ensures.within in
     let room : length c.table-table.result ≡ field_limit = omega arith in
-    let few : length c.in-Ended.lines.now ≤ length c.args.fields.now = omega (arith, c.in-Ended.ensures.within, c.requires) in
-    whole c.args.self c.args.end c.in-Ended.field-1 _ c.args.memory.now c.in-Ended.lines.now _ _ _
-    (sym c.if-not-holds.ensures) room c.in-Ended.ensures.is (c.keep-sent_on.ensures.all few) c.parts-request.ensures c.limited.ensures
+    let few : length c.in-Ok-Some.read.lines.now ≤ length c.args.fields.now = omega (arith, within.0, c.requires) in
+    whole c.args.self c.args.end _ _ c.args.memory.now c.in-Ok-Some.read.lines.now _ _ _
+    (sym c.if-not-holds.ensures) room read (c.keep-sent_on.ensures.all few) c.parts-request.ensures c.limited.ensures

@@ -1,10 +1,13 @@
-use Rattle.std.proofs.Common.{◌≡◌, ◌≤◌, drop, vec_items, vec_len, vec_capacity}
-use Rattle.script.specs.Payloads.{spelled_from}
-use Rattle.script.proofs.Spelling.{joined}
+use Rattle.std.proofs.Common.{◌≡◌, ◌+◌, ◌≤◌, length, vec_items, vec_len, vec_capacity}
+use Rattle.script.specs.Payloads.{bytes_left, spelled, text_of}
+use Rattle.script.proofs.Spelling.{whole, joined, puts}
 use Rattle.script.proofs.payload.Payload.spell.Given as goal
 
 -- what was spelled so far, with what is left, is the whole; the room has not shrunk, and each byte put out took at least one to spell
-abbrev pub invariant-loop-b : goal.invariant-loop-b
-invariant-loop-b l =
-    (joined (vec_items l.out) (spelled_from l.mode (drop l.b-index l.text)) ≡ spelled_from l.initial.mode l.text) × (vec_capacity l.initial.out ≤ vec_capacity l.out)
-    × (vec_len l.out ≤ l.b-index)
+abbrev pub invariant-loop-byte : goal.invariant-loop-byte
+invariant-loop-byte l =
+    record {
+      all : joined (vec_items l.out) (whole (bytes_left l.byte-iterator)) ≡ spelled l.self;
+      room : vec_capacity l.initial.out ≤ vec_capacity l.out;
+      few : vec_len l.out + puts (bytes_left l.byte-iterator) ≤ length (text_of l.self);
+    }
