@@ -14,8 +14,8 @@ pub struct SentField<'a> {
     pub value: &'a [u8],
 }
 
-// A table for the fields of a head that are sent on, to be lent: its length is how many a head may have. Beside `sent::table`, since an array of a
-// type parameter has no size that could be proved.
+// A table for the fields of a head that are sent on, to be lent: its length is how many a head may have. Beside `sent::table`, and no generic one: each
+// is one array, of an empty value of its own.
 #[tactic(auto, unfolding(text::specs::Bytes::lowered, text::specs::Trims::squeezed_after))]
 pub fn blank_fields<'a>() -> [SentField<'a>; 64]
     ensures { view_sent_fields result ≡ replicate 64 (record { name = []; value = [] }) }
