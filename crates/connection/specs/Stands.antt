@@ -72,10 +72,9 @@ module _ {H : Type 0} (way : Way H) where
   -- that is none of the connection's, nothing happens.
   abbrev pub AskedSo : ℕ → Req → Text → Text → Connection H → Connection H → Result ℕ Unsent → Type 0
   AskedSo p q out then s t (Ok n) = (admission_of s ≡ Ok tt) × (length q.method ≤ 16) × Written (write q) out then (Ok n) × ((memory : Text) (c : Conn) → Stands s memory c → Stands t memory (step way.ear (asks p q) c))
-  AskedSo p q out then s t (Err (Refused f)) = (admission_of s ≡ Err f) × (then ≡ out) × ((memory : Text) (c : Conn) → Stands s memory c → Stands t memory (step way.ear (asks p q) c) × (step way.ear (asks p q) c ≡ c))
-  AskedSo p q out then s t (Err Method) = (admission_of s ≡ Ok tt) × (16 < length q.method) × (then ≡ out) × ((memory : Text) (c : Conn) → Stands s memory c → Stands t memory c)
-  AskedSo p q out then s t (Err (Full f)) =
-      (admission_of s ≡ Ok tt) × (length q.method ≤ 16) × Written (write q) out then (Err f) × ((memory : Text) (c : Conn) → Stands s memory c → Stands t memory c)
+  AskedSo p q out then s t (Err (Refused f)) = (admission_of s ≡ Err f) × (then ≡ out) × (t ≡ s) × ((memory : Text) (c : Conn) → Stands s memory c → step way.ear (asks p q) c ≡ c)
+  AskedSo p q out then s t (Err Method) = (admission_of s ≡ Ok tt) × (16 < length q.method) × (then ≡ out) × (t ≡ s)
+  AskedSo p q out then s t (Err (Full f)) = (admission_of s ≡ Ok tt) × (length q.method ≤ 16) × Written (write q) out then (Err f) × (t ≡ s)
 
   -- an owner of a connection that went down is told, the next in order; or all were
   abbrev pub TellsSo : Conn → List Owner → Telling H → Type 0

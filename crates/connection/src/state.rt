@@ -1,7 +1,7 @@
 // A connection. What may happen next is told apart by type: a connection that is at rest may be asked and may hear a piece; one that has
 // heard a piece hands over, one by one, the responses that are whole; one that goes down tells all who wait, one by one. So a request can only go out
 // where all that was whole has been handed over, and a byte that has come can never reach an owner who asks later.
-ghost use Rattle.std.specs.Prelude.{◌≡◌, ◌+◌, ◌<◌, false, List, drop, if◌then◌else◌};
+ghost use Rattle.std.specs.Prelude.{◌≡◌, ◌+◌, ◌<◌, false, IfErr, List, drop, if◌then◌else◌};
 ghost use Rattle.text.specs.Bytes.{Text};
 ghost use Rattle.request.specs.SentWriting.{view_sent_request};
 ghost use Rattle.connection.specs.Model.{Conn, fresh, sent_limit};
@@ -41,7 +41,7 @@ pub struct Busy<'p, H> {
 #[derive(Drop)]
 pub struct Falling<H>(Connection<H>);
 
-// A response as it lies in the memory, for the first owner that waited; last: no other response to the same request follows.
+// A response as it lies in the memory until the next call is lent it, for the first owner that waited; last: no other response to the same request follows.
 #[derive(Clone, Copy)]
 pub struct Handed<H> {
     pub owner: Owner,
@@ -203,6 +203,7 @@ impl<'p, H: Hearing> Busy<'p, H> {
     #[tactic(auto, unfolding(request::specs::Reading::memory_size))]
     pub fn next(self, memory: &mut [u8]) -> Result<Next<'p, H>, Busy<'p, H>>
         ensures turns { (c : Conn) → Pends H.way self.entry memory.old c → NextSo H.way memory.old memory.new c result }
+        ensures refused { IfErr result (λ busy. busy ≡ self.entry) }
         ensures left { memory.new ≡ left_by H.way self.entry memory.old }
     {
         if memory.len() != MEMORY {

@@ -1,0 +1,11 @@
+pub mod Turns
+pub mod Kept
+pub mod Steadily
+pub mod Ordered
+pub mod Lost
+pub mod Runs
+pub mod Grows
+pub mod Early
+pub mod Served
+pub mod Main
+pub mod Calling

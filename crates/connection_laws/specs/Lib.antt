@@ -1,0 +1,4 @@
+pub mod Moments
+pub mod Laws
+pub mod Promise
+pub mod Calls
