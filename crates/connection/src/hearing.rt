@@ -6,6 +6,9 @@ ghost use Rattle.text.specs.Bytes.{Text};
 ghost use Rattle.request.specs.Reading.{memory_size};
 ghost use Rattle.connection.specs.Model.{Steady};
 ghost use Rattle.connection.specs.Hearing.{Way, Within, Hears};
+ghost use Rattle.request.specs.Writing.{Written};
+
+use request::canonical::Full;
 
 // What a piece brought. Three outcomes, of which none ends the caller: what cannot be read is told to all who wait.
 #[derive(Clone, Copy, Debug, PartialEq, Eq)]
@@ -30,6 +33,10 @@ pub trait Hearing: Copy {
         ensures within { Within (length piece.now) result.1 }
         ensures left { memory.new ≡ way.leaves self memory.old method.now piece.now }
         ensures heard { (part : Text) → length memory.old ≡ memory_size → way.holds self memory.old method.now part → Hears way method.now part piece.now result.0 memory.new result.1 };
+
+    // Writes a whole response to the front of `out`, as it goes to the client.
+    fn write(self, memory: &[u8], out: &mut [u8]) -> Result<usize, Full>
+        ensures { Written (way.text self memory.now) out.old out.new result };
 
     ghost steady: { Steady way.ear };
 

@@ -4,6 +4,7 @@ ghost use Rattle.connection.specs.Hearing.{Within};
 ghost use Rattle.line_responses.specs.Lines.{is_early, fits_in, found_in};
 
 use connection::hearing::{Heard, Hearing};
+use request::canonical::Full;
 use request::reading::MEMORY;
 use text::line::{Cut, cut_line};
 use text::output::put;
@@ -71,5 +72,14 @@ impl Hearing for Line {
         }
         let n = put(&mut memory[self.len..], piece);
         self.found(&memory[0..self.len + n], n == piece.len())
+    }
+
+    fn write(self, memory: &[u8], out: &mut [u8]) -> Result<usize, Full> {
+        let text = &memory[..self.len.min(memory.len())];
+        let wanted = text.len();
+        if wanted > out.len() {
+            return Err(Full { wanted });
+        }
+        Ok(put(out, text))
     }
 }

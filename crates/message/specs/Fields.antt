@@ -1,6 +1,7 @@
 -- Fields as requests and responses share them: names, values, and the lines that they are written as.
 use Rattle.std.specs.Prelude.{ℕ, Bool, true, not, ◌&&◌, ◌||◌, List, [], ◌∷◌, ◌++◌, length, codes, ◌==◌, nat_le}
 use Rattle.text.specs.Bytes.{Text, between, digit, visible, all, among, nonempty}
+use Rattle.text.specs.Numerals.{decimal}
 
 pub record Field : Type 0 where
   pub name : Text
@@ -44,6 +45,10 @@ canonical_field f = nonempty f.name && nat_le (length f.name) name_limit && all 
 unfoldable pub canonical_fields : List Field → Bool
 canonical_fields [] = true
 canonical_fields (f ∷ fs) = canonical_field f && canonical_fields fs
+
+-- the field that says that a body has n bytes
+abbrev pub length_of : ℕ → Field
+length_of n = record { name = content_length; value = decimal n }
 
 -- name, colon, space, value. RFC 9112, 5: field-line = field-name ":" OWS field-value OWS
 abbrev pub line_of : Field → Text

@@ -6,3 +6,4 @@ pub mod Framing
 pub mod Hops
 pub mod Chunked
 pub mod SentViews
+pub mod Bodies

@@ -2,9 +2,10 @@
 // open: what holds one says which name and which value are written, and the lines are the same for all.
 ghost use Rattle.std.specs.Prelude.{◌≡◌, length};
 ghost use Rattle.text.specs.Bytes.{Wrote, capped};
-ghost use Rattle.message.specs.Fields.{Field as Written};
+ghost use Rattle.message.specs.Fields.{Field as Written, length_of};
 ghost use Rattle.message.specs.Views.{view_field, fields_by, field_line, field_bytes};
 
+use text::numeral::{Base, write_number};
 use text::output::put;
 
 // What a field line is written of.
@@ -80,6 +81,16 @@ pub fn put_fields<F: FieldLine>(out: &mut [u8], fields: &[F]) -> usize
 pub struct Field<'a> {
     pub name: &'a [u8],
     pub value: &'a [u8],
+}
+
+// The field that says how long a body is, with its digits in the caller's bytes.
+pub fn length_field(len: usize, digits: &mut [u8; 20]) -> Field<'_>
+    ensures { view_field result ≡ length_of len }
+{
+    Field {
+        name: b"content-length",
+        value: write_number(digits, len, Base::Decimal),
+    }
 }
 
 impl FieldLine for Field<'_> {

@@ -2,6 +2,7 @@
 // Nothing here allocates; all memory is lent.
 #![tactic(auto)]
 
+pub mod body;
 pub mod chunked;
 pub mod fault;
 pub mod field;

@@ -5,3 +5,6 @@ pub mod Bodies
 pub mod Only
 pub mod Dues
 pub mod Refused
+pub mod Parts
+pub mod Standing
+pub mod Unplaced

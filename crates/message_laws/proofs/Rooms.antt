@@ -11,10 +11,10 @@ use Rattle.message.proofs.Chunks.{fair_on, fits_so}
 use Rattle.message_laws.specs.Laws.{ChunksFit}
 
 -- what a run over n bytes that wants more leaves of the room, and where it stands
-record Left (s : Chunk) (n : ℕ) (r : Run) : Type 0 where
-  room : length r.body + (due_of r.chunk + r.chunk.room) ≤ due_of s + s.room
-  place : r.chunk.read ≡ s.read + n
-  all : r.taken ≡ n
+pub record Left (s : Chunk) (n : ℕ) (r : Run) : Type 0 where
+  pub room : length r.body + (due_of r.chunk + r.chunk.room) ≤ due_of s + s.room
+  pub place : r.chunk.read ≡ s.read + n
+  pub all : r.taken ≡ n
 
 abbrev Leaves : Chunk → ℕ → Run → Type 0
 Leaves s n r = r.outcome ≡ More → Left s n r
@@ -32,7 +32,7 @@ leaves_go s b bs (Ok (On t)) w k e =
 leaves_go s b bs (Ok (End t)) w k e = absurd cc
 leaves_go s b bs (Err f) w k e = absurd cc
 
-leaves : (xs : Text) (s : Chunk) → Leaves s (length xs) (run s xs)
+pub leaves : (xs : Text) (s : Chunk) → Leaves s (length xs) (run s xs)
 unfolding run
 leaves [] s = λ e. record { room = omega arith; place = omega arith; all = refl }
 leaves (b ∷ bs) s =

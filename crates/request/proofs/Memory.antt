@@ -1,7 +1,7 @@
 -- What the lent memory holds after a write into a part of it.
-use Rattle.std.proofs.Common.{◌≡◌, ℕ, ◌+◌, ◌-◌, ◌≤◌, ◌++◌, length, take, drop, sym, ap, ◌∙◌, append_assoc, arith}
+use Rattle.std.proofs.Common.{◌≡◌, ℕ, ◌+◌, ◌≤◌, ◌++◌, length, take, drop, sym, ap, ◌∙◌, append_assoc}
 use borrow.Rule.Slice.PartMut.{put_mid}
-use Rattle.std.proofs.lemmas.List.{append-nil, length-drop, take-append-drop, drop_all, drop-append-le, drop-drop}
+use Rattle.std.proofs.lemmas.List.{take-append-drop, drop-append-le, drop-drop}
 use Rattle.text.specs.Bytes.{Text, placed}
 use Rattle.text.proofs.Places.{placed_fits}
 use Rattle.request.specs.Reading.{placed_at}
@@ -14,9 +14,3 @@ front_placed n m ys xs part h e =
     let back : drop k (take m d) ++ drop m d ≡ drop (n + k) xs = sym (drop-append-le k (take m d) (drop m d) h) ∙ ap (drop k) (take-append-drop m d) ∙ drop-drop k n xs in
     ap (λ zs. take n xs ++ (zs ++ drop m d)) (e ∙ placed_fits ys (take m d) h)
     ∙ ap (λ zs. take n xs ++ zs) (append_assoc ys (drop k (take m d)) (drop m d) ∙ ap (λ zs. ys ++ zs) back)
-
--- all from a place on
-pub end_placed : (n : ℕ) (xs part : Text) → put_mid n (length xs - n) xs part ≡ take n xs ++ part
-end_placed n xs part =
-    let past : length (drop n xs) ≤ length xs - n = simp length-drop (omega arith) in
-    ap (λ zs. take n xs ++ (part ++ zs)) (drop_all (length xs - n) (drop n xs) past) ∙ ap (λ zs. take n xs ++ zs) (append-nil part)

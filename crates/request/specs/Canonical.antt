@@ -1,8 +1,7 @@
 -- Requests in canonical form, and their bytes: all that is ever sent to a server.
 use Rattle.std.specs.Prelude.{ℕ, ◌+◌, Bool, true, false, cond, not, ◌&&◌, ◌||◌, List, [], ◌∷◌, ◌++◌, length, codes, ◌==◌, nat_le, nat_lt}
 use Rattle.text.specs.Bytes.{Text, upper, visible, all, same, among, nonempty}
-use Rattle.text.specs.Numerals.{decimal}
-use Rattle.message.specs.Fields.{Field, content_length, canonical_fields, field_lines, lines_of}
+use Rattle.message.specs.Fields.{Field, length_of, canonical_fields, field_lines, lines_of}
 
 pub record Req : Type 0 where
   pub method : Text
@@ -49,7 +48,7 @@ abbrev pub one_host : List Field → Bool
 one_host fs = count_named (codes "host") fs == 1
 
 abbrev pub length_field : Text → Field
-length_field body = record { name = content_length; value = decimal (length body) }
+length_field body = length_of (length body)
 
 -- the fields as they are sent: the length, where there is one, is the last
 abbrev pub sent_fields : Req → List Field

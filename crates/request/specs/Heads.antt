@@ -1,32 +1,25 @@
 -- The head of a request, judged as far as it has come, in the stated order of faults.
-use Rattle.std.specs.Prelude.{ℕ, ◌+◌, ◌-◌, ◌<◌, ◌≤◌, Bool, true, false, cond, List, length, take, Some, None, Ok, Err, Option, Result, nat_lt}
+use Rattle.std.specs.Prelude.{ℕ, ◌+◌, ◌-◌, ◌≤◌, Bool, true, false, cond, List, length, take, Some, None, Ok, Err, Option, Result, nat_lt}
 use Rattle.text.specs.Bytes.{Text}
 use Rattle.text.specs.Cuts.{LineCut, whole, short, stray, cut_line}
+use Rattle.message.specs.Bodies.{due_by, AtStart}
 use Rattle.message.specs.Faults.{flaw, onward}
 use Rattle.message.specs.Framing.{framed}
-use Rattle.message.specs.Chunked.{most_bytes, fresh}
 use Rattle.message.specs.Sent.{Sent, Found, ended, more, wrong, fields_in}
-use Rattle.message.specs.declared.fault.Fault.TheVariants.{TooLong, BodyUnfit, BodyTooLong}
+use Rattle.message.specs.declared.body.Due.{Due}
+use Rattle.message.specs.declared.body.Due.TheVariants.{Length}
+use Rattle.message.specs.declared.fault.Fault.TheVariants.{TooLong, BodyUnfit}
 use Rattle.message.specs.declared.fault.Flaw.{Flaw}
 use Rattle.message.specs.declared.framing.Said.{Said}
-use Rattle.message.specs.declared.framing.Size.{Size}
-use Rattle.message.specs.declared.framing.Size.TheVariants.{Length as SaidLength, Chunked}
-use Rattle.request.specs.Canonical.{carries_body, body_limit, field_limit}
+use Rattle.request.specs.Canonical.{carries_body, field_limit}
 use Rattle.request.specs.First.{check_first}
 use Rattle.request.specs.Hosts.{server_of}
 use Rattle.request.specs.declared.first.First.{First}
-use Rattle.request.specs.declared.head.Due.{Due}
-use Rattle.request.specs.declared.head.Due.TheVariants.{Length, Chunks}
 use Rattle.request.specs.declared.head.Judged.{Judged}
 
 -- a head as sent, its empty line included, ends within so many bytes
 unfoldable pub window : ℕ
 window = 20480
-
--- a length is followed by a body that is not too long, and chunks by chunks; len: how many bytes the head has
-abbrev pub due_by : Size → ℕ → ℕ → Result Due Flaw
-due_by Chunked value_at len = Ok (Chunks (fresh most_bytes len))
-due_by (SaidLength n) value_at len = cond (nat_lt n body_limit) (Ok (Length n)) (Err (flaw BodyTooLong value_at))
 
 -- what is due of a body: a method that carries one says how long it is, and no other method says so
 abbrev pub due_of : Bool → Option Said → ℕ → Result Due Flaw
@@ -72,13 +65,9 @@ on_first names w (whole l rest) = onward (check_first l true) (λ first. on_fiel
 abbrev pub judged : List Text → Text → Result (Option Judged) Flaw
 judged names w = on_first names w (cut_line w)
 
-abbrev pub SoundDue : Due → Type 0
-SoundDue (Length n) = n < body_limit
-SoundDue (Chunks c) = Unit {0}
-
--- the parts of a head lie in it, and it in what has come; a length is not too long
+-- the parts of a head lie in it, and it in what has come; what is due is all of a body that may begin behind it
 abbrev pub Sound : ℕ → Result (Option Judged) Flaw → Type 0
 Sound n (Ok (Some j)) =
-    (j.head.method + 1 + j.head.target ≤ j.head.fields) × (j.head.fields ≤ j.head.len) × (j.head.len ≤ n) × SoundDue j.due
+    (j.head.method + 1 + j.head.target ≤ j.head.fields) × (j.head.fields ≤ j.head.len) × (j.head.len ≤ n) × AtStart j.head.len j.due
 Sound n (Ok None) = Unit {0}
 Sound n (Err w) = Unit {0}

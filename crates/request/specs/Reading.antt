@@ -1,19 +1,17 @@
 -- A client's bytes, read as they come: what a piece does to the small state and to the lent memory.
-use Rattle.std.specs.Prelude.{◌≡◌, ℕ, ◌+◌, ◌-◌, ◌≤◌, Bool, true, cond, ◌&&◌, List, ◌++◌, length, take, drop, Some, None, Ok, Err, Option, Result, ◌==◌, nat_le, nat_lt}
+use Rattle.std.specs.Prelude.{ℕ, ◌+◌, ◌-◌, Bool, true, cond, ◌&&◌, List, ◌++◌, length, take, drop, Some, None, Ok, Err, Option, Result, ◌==◌, nat_le}
 use Rattle.text.specs.Bytes.{Text}
-use Rattle.message.specs.Chunked.{fed_by as chunk_fed, held_by as chunk_held}
+use Rattle.message.specs.Bodies.{fits as body_fits, fed_by as body_fed, held_by as body_held}
 use Rattle.message.specs.Faults.{flaw}
-use Rattle.message.specs.declared.chunked.Chunk.{Chunk}
-use Rattle.message.specs.declared.chunked.Fed.{Fed as ChunkFed}
+use Rattle.message.specs.declared.body.Due.{Due}
+use Rattle.message.specs.declared.body.Fed.{Fed as BodyFed}
 use Rattle.message.specs.declared.chunked.Outcome.{Outcome}
-use Rattle.message.specs.declared.chunked.Outcome.TheVariants.{More, Whole as AllChunks, Wrong}
+use Rattle.message.specs.declared.chunked.Outcome.TheVariants.{More, Whole as BodyWhole, Wrong}
 use Rattle.message.specs.declared.fault.Flaw.{Flaw}
 use Rattle.message.specs.declared.fault.Unfit.{Unfit}
 use Rattle.request.specs.Heads.{window, judged}
 use Rattle.request.specs.Targets.{check_target, undone}
 use Rattle.request.specs.declared.head.Head.{Head}
-use Rattle.request.specs.declared.head.Due.{Due}
-use Rattle.request.specs.declared.head.Due.TheVariants.{Length, Chunks}
 use Rattle.request.specs.declared.head.Judged.{Judged}
 use Rattle.request.specs.declared.reading.Body.{Body}
 use Rattle.request.specs.declared.reading.Reading.{Reading}
@@ -81,35 +79,24 @@ head_step names filled memory piece =
     on_judged filled (length (take (window - filled) piece)) (placed_at filled (take (window - filled) piece) memory)
     (judged names (take (filled + length (take (window - filled) piece)) (placed_at filled (take (window - filled) piece) memory)))
 
--- a piece of a body by length: so many bytes are due
-abbrev pub length_step : Head → ℕ → ℕ → Text → Text → After
-length_step head filled due memory piece =
-    cond (nat_lt (length piece) due)
-    (after (in_body head (filled + length piece) (Length (due - length piece))) (length piece) (placed_at filled piece memory))
-    (ending head (filled + due) due (placed_at filled (take due piece) memory))
-
-abbrev pub on_outcome : Head → ℕ → ChunkFed → Text → Outcome → After
-on_outcome head filled fed memory More = after (in_body head (filled + fed.written) (Chunks fed.chunk)) fed.taken memory
-on_outcome head filled fed memory AllChunks = ending head (filled + fed.written) fed.taken memory
+abbrev pub on_outcome : Head → ℕ → BodyFed → Text → Outcome → After
+on_outcome head filled fed memory More = after (in_body head (filled + fed.written) fed.due) fed.taken memory
+on_outcome head filled fed memory BodyWhole = ending head (filled + fed.written) fed.taken memory
 on_outcome head filled fed memory (Wrong w) = after (Refused w) fed.taken memory
 
-abbrev pub on_chunks : Head → ℕ → Chunk → Text → Text → Result ChunkFed Unfit → After
-on_chunks head filled c memory held (Err u) = after (in_body head filled (Chunks c)) 0 memory
-on_chunks head filled c memory held (Ok fed) = on_outcome head filled fed (take filled memory ++ held) fed.outcome
+-- where there is no room, or the piece cannot be counted, nothing is taken
+abbrev pub on_part : Body → Text → Text → Result BodyFed Unfit → After
+on_part b memory held (Err u) = after (InBody b) 0 memory
+on_part b memory held (Ok fed) = on_outcome b.head b.filled fed (take b.filled memory ++ held) fed.outcome
 
--- a piece of a chunked body: the data goes to the free end of the memory
-abbrev pub chunks_step : Head → ℕ → Chunk → Text → Text → After
-chunks_step head filled c memory piece =
-    on_chunks head filled c memory (chunk_held c (drop filled memory) piece) (chunk_fed c (length (drop filled memory)) piece)
-
-abbrev pub due_step : Head → ℕ → Due → Text → Text → After
-due_step head filled (Length due) memory piece = length_step head filled due memory piece
-due_step head filled (Chunks c) memory piece = chunks_step head filled c memory piece
+-- a piece of a body: what it holds goes to the free end of the memory
+abbrev pub due_step : Body → Text → Text → After
+due_step b memory piece = on_part b memory (body_held b.due (drop b.filled memory) piece) (body_fed b.due (length (drop b.filled memory)) piece)
 
 -- a piece of a body; where none is being read nothing is taken
 abbrev pub body_step : Reading → Text → Text → After
 body_step (InHead filled) memory piece = after (InHead filled) 0 memory
-body_step (InBody b) memory piece = due_step b.head b.filled b.due memory piece
+body_step (InBody b) memory piece = due_step b memory piece
 body_step (Whole head end) memory piece = after (Whole head end) 0 memory
 body_step (Refused w) memory piece = after (Refused w) 0 memory
 
@@ -136,16 +123,11 @@ fits_head size head = nat_le (head.method + 1 + head.target) size
 
 -- a memory of this size, filled up to a place, has room for what is due
 abbrev pub fits_due : ℕ → ℕ → Due → Bool
-fits_due size filled (Length due) = nat_le (filled + due) size
-fits_due size filled (Chunks c) = nat_le filled size
+fits_due size filled due = nat_le filled size && body_fits due (size - filled) 0
 
 -- a memory of this size has the parts of the head, and room for what is due of the body
 abbrev pub fits_body : ℕ → Body → Bool
 fits_body size b = fits_head size b.head && fits_due size b.filled b.due
-
--- it has the parts of the head, and room for so many bytes behind those that have come
-abbrev pub HasRoom : ℕ → Body → ℕ → Type 0
-HasRoom size b more = (fits_head size b.head ≡ true) × (b.filled + more ≤ size)
 
 -- the parts of a memory of this size that the state speaks of are there
 abbrev pub fits_state : ℕ → Reading → Bool

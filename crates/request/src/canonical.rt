@@ -2,13 +2,11 @@
 // length, empty line, body. Whether all of it has room is asked before the first byte is written, so that a refusal leaves the output as it was.
 ghost use Rattle.std.specs.Prelude.{◌≡◌, length};
 ghost use Rattle.text.specs.Bytes.{Wrote, capped};
-ghost use Rattle.message.specs.Views.{view_field};
-ghost use Rattle.request.specs.Canonical.{carries_body, length_field, write};
+ghost use Rattle.request.specs.Canonical.{carries_body, write};
 ghost use Rattle.request.specs.Writing.{request_by, head_length, first_bytes, length_bytes, Written};
 
-use message::field::{Field, FieldLine, fields_len, put_fields};
+use message::field::{Field, FieldLine, fields_len, length_field, put_fields};
 use text::name::eq;
-use text::numeral::{Base, write_number};
 use text::output::put;
 
 // A request, as parts of the caller's bytes, with fields that are held in any way in which they can be written.
@@ -36,17 +34,6 @@ pub fn carries_body(method: &[u8]) -> bool
 }
 
 impl<F: FieldLine> Request<'_, '_, F> {
-    // The field that says how long the body is, with its digits in the caller's bytes.
-    fn length_field<'d>(&self, digits: &'d mut [u8; 20]) -> Field<'d>
-        ensures { view_field result ≡ length_field (request_by F.view self.now).body }
-    {
-        let value = write_number(digits, self.body.len(), Base::Decimal);
-        Field {
-            name: b"content-length",
-            value,
-        }
-    }
-
     fn length_len(&self) -> usize
         ensures { result ≡ capped (length (length_bytes (request_by F.view self.now))) }
     {
@@ -54,7 +41,7 @@ impl<F: FieldLine> Request<'_, '_, F> {
             return 0;
         }
         let mut digits = [0u8; 20];
-        self.length_field(&mut digits).line_len()
+        length_field(self.body.len(), &mut digits).line_len()
     }
 
     // How many bytes its head has on the wire, the empty line included.
@@ -95,7 +82,7 @@ impl<F: FieldLine> Request<'_, '_, F> {
             return 0;
         }
         let mut digits = [0u8; 20];
-        self.length_field(&mut digits).put_line(out)
+        length_field(self.body.len(), &mut digits).put_line(out)
     }
 
     // Writes it to the front of `out`, whole, and says how many bytes that took.

@@ -9,17 +9,14 @@ ghost use Rattle.request.specs.Heads.{due_of, judged_fields, unended_at, unlined
 use crate::canonical::carries_body;
 use crate::first::check_first;
 use crate::host::find_server;
-use message::chunked::Chunk;
+use message::body::Due;
 use message::fault::{Fault, Flaw};
-use message::framing::{Said, Size, framing};
+use message::framing::{Said, framing};
 use message::sent::{Fields, Line, read_fields, table};
 use text::line::{Cut, cut_line};
 
 // A head has so many bytes to end in.
 pub const WINDOW: usize = 20480;
-
-// A body has at most so many bytes.
-pub const BODY_MOST: usize = 262143;
 
 // Where the parts of a head lie: the method first, the target behind the space after it, the fields from `fields` on, and all of it in `len`
 // bytes; and the server that it asks for, counted from 0.
@@ -30,13 +27,6 @@ pub struct Head {
     pub target: usize,
     pub fields: usize,
     pub server: usize,
-}
-
-// What is still due of a body.
-#[derive(Clone, Copy)]
-pub enum Due {
-    Length(usize),
-    Chunks(Chunk),
 }
 
 // A head that is let pass, and the body that it says.
@@ -50,19 +40,11 @@ pub struct Judged {
 fn body_due(carries: bool, said: Option<Said>, len: usize) -> Result<Due, Flaw>
     ensures { result ≡ due_of carries said len }
 {
-    let Some(said) = said else {
-        if carries {
-            return Err(Fault::BodyUnfit.at(len.saturating_sub(2)));
-        }
-        return Ok(Due::Length(0));
-    };
-    if !carries {
-        return Err(Fault::BodyUnfit.at(said.at));
-    }
-    match said.size {
-        Size::Chunked => Ok(Due::Chunks(Chunk::new(len))),
-        Size::Length(n) if n > BODY_MOST => Err(Fault::BodyTooLong.at(said.value_at)),
-        Size::Length(n) => Ok(Due::Length(n)),
+    match said {
+        None if carries => Err(Fault::BodyUnfit.at(len.saturating_sub(2))),
+        None => Ok(Due::Length(0)),
+        Some(said) if carries => Due::new(said, len),
+        Some(said) => Err(Fault::BodyUnfit.at(said.at)),
     }
 }
 

@@ -5,11 +5,12 @@ ghost use Rattle.std.specs.Prelude.{◌≡◌, ◌+◌, ◌≤◌, true, length}
 ghost use Rattle.request.specs.Hosts.{names_of};
 ghost use Rattle.request.specs.Heads.{window};
 ghost use Rattle.request.specs.declared.reading.Reading.TheVariants.{InHead};
-ghost use Rattle.request.specs.Reading.{memory_size, placed_at, fits_head, fits_due, fits_body, fits_in, HasRoom, finished, head_step, length_step, chunks_step, due_step, front_step, body_step, fed_by, fed_of, held_by};
+ghost use Rattle.request.specs.Reading.{memory_size, placed_at, fits_head, fits_body, fits_in, finished, head_step, due_step, front_step, body_step, fed_by, fed_of, held_by};
 
-use crate::head::{Due, Head, WINDOW, judge_head};
+use crate::head::{Head, WINDOW, judge_head};
 use crate::target::{check_target, undo};
-use message::chunked::{Chunk, Outcome};
+use message::body::Due;
+use message::chunked::Outcome;
 use message::fault::{Flaw, Unfit};
 
 // The memory lent for one client: a head, and a body.
@@ -68,18 +69,6 @@ impl Head {
     }
 }
 
-impl Due {
-    // Whether a memory of this size, filled up to a place, has room for it.
-    fn fits(self, filled: usize, size: usize) -> bool
-        ensures { result ≡ fits_due size filled self }
-    {
-        match self {
-            Due::Length(due) => filled <= size && due <= size - filled,
-            Due::Chunks(_) => filled <= size,
-        }
-    }
-}
-
 // Writes bytes into the memory at a place.
 fn store(memory: &mut [u8], at: usize, bytes: &[u8])
     requires { at + length bytes.now ≤ length memory.old }
@@ -120,77 +109,40 @@ fn feed_head(filled: usize, memory: &mut [u8], piece: &[u8], servers: &[&[u8]]) 
 }
 
 impl Body {
-    // Whether a memory of this size has the head's parts, and room for what is due.
+    // Whether a memory of this size has the head's parts, and room for what is due behind those bytes of it that are filled.
     fn fits(self, size: usize) -> bool
         ensures { result ≡ fits_body size self }
     {
-        self.head.fits(size) && self.due.fits(self.filled, size)
+        self.head.fits(size) && self.filled <= size && self.due.fits(size - self.filled, 0)
     }
 
-    // A piece of a body of which `due` bytes are still to come.
-    fn feed_length(self, due: usize, memory: &mut [u8], piece: &[u8]) -> Fed
-        requires { HasRoom (length memory.old) self due }
-        ensures told { result ≡ fed_by (length_step self.head self.filled due memory.old piece.now) }
-        ensures held { memory.new ≡ (length_step self.head self.filled due memory.old piece.now).memory }
+    // A piece of the body: what it holds goes to the free end of the memory, and with the last of it the request is whole.
+    fn feed(self, memory: &mut [u8], piece: &[u8]) -> Fed
+        requires { fits_body (length memory.old) self ≡ true }
+        ensures told { result ≡ fed_by (due_step self memory.old piece.now) }
+        ensures held { memory.new ≡ (due_step self memory.old piece.now).memory }
         ensures within { result.taken ≤ length piece.now }
     {
-        if piece.len() < due {
-            store(memory, self.filled, piece);
-            let left = Body {
-                filled: self.filled + piece.len(),
-                due: Due::Length(due - piece.len()),
-                ..self
-            };
+        let Body { head, filled, due } = self;
+        let Ok(fed) = due.feed(&mut memory[filled..], piece) else {
             return Fed {
-                reading: Reading::InBody(left),
-                taken: piece.len(),
-            };
-        }
-        store(memory, self.filled, &piece[0..due]);
-        Fed {
-            reading: self.head.finish(self.filled + due, memory),
-            taken: due,
-        }
-    }
-
-    // A piece of a chunked body: its data goes to the free end of the memory.
-    fn feed_chunks(self, chunk: Chunk, memory: &mut [u8], piece: &[u8]) -> Fed
-        requires { HasRoom (length memory.old) self 0 }
-        ensures told { result ≡ fed_by (chunks_step self.head self.filled chunk memory.old piece.now) }
-        ensures held { memory.new ≡ (chunks_step self.head self.filled chunk memory.old piece.now).memory }
-        ensures within { result.taken ≤ length piece.now }
-    {
-        let Body { head, filled, .. } = self;
-        let Ok(fed) = chunk.feed(&mut memory[filled..], piece) else {
-            let due = Due::Chunks(chunk);
-            return Fed {
-                reading: Reading::InBody(Body { due, ..self }),
+                reading: Reading::InBody(self),
                 taken: 0,
             };
         };
         let filled = filled + fed.written;
-        let due = Due::Chunks(fed.chunk);
         let reading = match fed.outcome {
-            Outcome::More => Reading::InBody(Body { head, filled, due }),
+            Outcome::More => Reading::InBody(Body {
+                head,
+                filled,
+                due: fed.due,
+            }),
             Outcome::Whole => head.finish(filled, memory),
             Outcome::Wrong(flaw) => Reading::Refused(flaw),
         };
         Fed {
             reading,
             taken: fed.taken,
-        }
-    }
-
-    // A piece of the body: takes what belongs to it.
-    fn feed(self, memory: &mut [u8], piece: &[u8]) -> Fed
-        requires { fits_body (length memory.old) self ≡ true }
-        ensures told { result ≡ fed_by (due_step self.head self.filled self.due memory.old piece.now) }
-        ensures held { memory.new ≡ (due_step self.head self.filled self.due memory.old piece.now).memory }
-        ensures within { result.taken ≤ length piece.now }
-    {
-        match self.due {
-            Due::Length(due) => self.feed_length(due, memory, piece),
-            Due::Chunks(chunk) => self.feed_chunks(chunk, memory, piece),
         }
     }
 }

@@ -1,106 +1,98 @@
 -- A piece of a body: it goes behind what the memory holds, and with the last of it the request is whole.
-use Rattle.std.proofs.Common.{◌≡◌, ℕ, ◌+◌, ◌-◌, ◌<◌, ◌≤◌, ltb, List, ◌++◌, length, take, drop, sym, refl, ap, ◌∙◌, subst, ap₂, append_assoc, arith}
-use lib.Seq.{take-append-add}
+use Rattle.std.proofs.Common.{◌≡◌, ℕ, ◌+◌, ◌-◌, ◌^◌, ◌<◌, ◌≤◌, true, List, ◌++◌, length, take, drop, sym, refl, ap, ◌∙◌, subst, ap₂, arith}
 use Rattle.std.proofs.lemmas.List.{length-append, length-take-le, length-drop, take-append-le, drop-append-le}
-use Rattle.std.proofs.lemmas.Bool.{cond_both, cond-true, cond-false, ltb-true, ltb-false, le-leb, lt-leb}
 use Rattle.text.specs.Bytes.{Text}
-use Rattle.request.specs.Reading.{after, memory_size, placed_at, in_body, ending, finished, length_step}
+use Rattle.message.specs.Bodies.{Part, part_of, fits, told}
+use Rattle.message.specs.declared.body.Due.{Due}
+use Rattle.message.specs.declared.chunked.Outcome.{Outcome as Ran}
+use Rattle.message.specs.declared.chunked.Outcome.TheVariants.{More, Whole, Wrong}
+use Rattle.message_laws.specs.Laws.{behind}
+use Rattle.message_laws.proofs.Parts.{all_read}
+use Rattle.message_laws.proofs.Standing.{DueAt, Holds, within, then_held, then_long, goes_on, fed, put, put_holds}
+use Rattle.request.specs.Reading.{memory_size, on_outcome, on_part as on_fed, due_step}
 use Rattle.request.specs.declared.head.Head.{Head}
-use Rattle.request.specs.declared.head.Due.{Due}
-use Rattle.request.specs.declared.head.Due.TheVariants.{Length}
-use Rattle.request_laws.specs.Outcome.{whole, judged_whole, outcome}
-use Rattle.request_laws.proofs.MemoryPlaced.{placed_long, placed_upto}
+use Rattle.request_laws.specs.Outcome.{broken, whole, judged_whole, on_ran, on_part, outcome}
 use Rattle.request_laws.proofs.RequestFinished.{Lies, finished_finds, finished_over}
-use Rattle.request_laws.proofs.Stands.{fits_both, Body, Rests, going, resting, Comes, known, in_window, in_all, lies, still, outcome_is}
+use Rattle.request_laws.proofs.Stands.{Body, going, resting, Comes, in_all, lies, still, outcome_is, has_room}
 
--- ys, bytes of the body in a piece, are put behind what the memory holds
-module _ (names : List Text) (s piece : Text) (head : Head) (filled : ℕ) (start due : Due) (memory : Text) (b : Body names s head filled start due memory) (ys : Text) (room : filled + length ys ≤ memory_size) where
-  in_memory : filled + length ys ≤ length memory
-  in_memory = omega (arith, b.size)
-
-  pub then_size : length (placed_at filled ys memory) ≡ memory_size
-  then_size = placed_long filled ys memory in_memory ∙ b.size
-
-  pub then_fill : filled + length ys ≡ head.len + length (b.body ++ ys)
-  then_fill = simp length-append (omega (arith, b.fill))
-
-  same_front : take head.len s ≡ take head.len (s ++ piece)
-  same_front = sym (take-append-le head.len s piece (in_all names s head start b.judges))
-
-  pub then_held : take (filled + length ys) (placed_at filled ys memory) ≡ take head.len (s ++ piece) ++ (b.body ++ ys)
-  then_held =
-      placed_upto filled ys memory in_memory ∙ ap (λ t. t ++ ys) b.held ∙ append_assoc (take head.len s) b.body ys
-      ∙ ap (λ t. t ++ (b.body ++ ys)) same_front
-
-  -- with them the request is whole
-  pub then_whole : (total : ℕ) → outcome names (s ++ piece) ≡ whole (judged_whole head (take head.len (s ++ piece)) (b.body ++ ys)) total →
-      Rests names (s ++ piece) total (finished head (filled + length ys) (placed_at filled ys memory)).reading (finished head (filled + length ys) (placed_at filled ys memory)).memory
-  then_whole total is =
-      let front = take head.len (s ++ piece) in
-      let lie : Lies head front = subst (Lies head) same_front (lies names s head start b.judges) in
-      let fits : filled + length ys ≤ length (placed_at filled ys memory) = omega (arith, then_size) in
-      let over = finished_over head front (b.body ++ ys) (placed_at filled ys memory) (filled + length ys) lie then_fill fits then_held in
-      record {
-        over = over.0;
-        size = over.1 ∙ then_size;
-        final = whole (judged_whole head front (b.body ++ ys)) total;
-        is = is;
-        ends = λ e. cc;
-        finds = finished_finds head front (b.body ++ ys) (placed_at filled ys memory) (filled + length ys) lie then_fill fits then_held;
-        took = λ n. refl;
-      }
-
--- a piece of a body by length
-module _ (names : List Text) (s piece : Text) (head : Head) (filled n d : ℕ) (memory : Text) (b : Body names s head filled (Length n) (Length d) memory) where
+module _ (names : List Text) (s piece : Text) (head : Head) (filled : ℕ) (start due : Due) (memory : Text) (b : Body names s head filled start due memory) (counted : length (s ++ piece) < 2 ^ 64) where
   abbrev len : ℕ
   len = head.len
 
+  abbrev sofar : Text
+  sofar = drop len s
+
+  abbrev front : Text
+  front = take len s
+
+  abbrev next : Part
+  next = part_of due piece
+
+  abbrev then : Text
+  then = then_held filled memory next.body
+
   all : len ≤ length s
-  all = in_all names s head (Length n) b.judges
+  all = in_all names s head start b.judges
 
-  -- all of the body has room
-  pub room : filled + d ≤ memory_size
-  room =
-      let h = fits_both len n (in_window names s head (Length n) b.judges) (let k = (known names s head (Length n) b.judges).due in omega (arith, k)) in
-      omega (arith, h, b.fill, b.so.0)
+  front_long : length front ≡ len
+  front_long = length-take-le len s all
 
-  body_long : length s ≡ len + length b.body
-  body_long = let e = ap length b.so.1 in omega (arith, simp length-drop at e, all)
+  same_front : front ≡ take len (s ++ piece)
+  same_front = sym (take-append-le len s piece all)
 
-  behind : drop len (s ++ piece) ≡ b.body ++ piece
-  behind = drop-append-le len s piece all ∙ ap (λ t. t ++ piece) (sym b.so.1)
+  same_behind : sofar ++ piece ≡ drop len (s ++ piece)
+  same_behind = sym (drop-append-le len s piece all)
 
-  wants_more : length piece < d → Comes names (s ++ piece) (length s) (after (in_body head (filled + length piece) (Length (d - length piece))) (length piece) (placed_at filled piece memory))
-  wants_more h =
-      let fits : filled + length piece ≤ memory_size = omega (arith, room) in
-      let few : length (s ++ piece) < len + n = simp length-append (omega (arith, body_long, b.so.0)) in
-      going (sym (length-append s piece))
-      (outcome_is names s head (Length n) b.judges piece ∙ cond-false _ _ _ (lt-leb (len + n) (length (s ++ piece)) few)) (
-        Length n,
+  enough : fits start (length memory - length front) (length (sofar ++ piece)) ≡ true
+  enough = ap₂ (λ n m. fits start (n - m) (length (sofar ++ piece))) b.size front_long ∙ has_room names s head start b.judges piece counted
+
+  size : length then ≡ memory_size
+  size = then_long b.holds next.body ∙ b.size
+
+  holds : Holds (take len (s ++ piece)) (b.body ++ next.body) (filled + length next.body) then
+  holds = subst (λ t. Holds t (b.body ++ next.body) (filled + length next.body) then) same_front (put_holds piece b.at b.holds enough)
+
+  -- what all the bytes mean
+  outcome_so : (o : Ran) → next.outcome ≡ o → outcome names (s ++ piece) ≡ on_ran head (s ++ piece) (behind b.body (length sofar) next) o
+  outcome_so o e =
+      outcome_is names s head start b.judges piece ∙ ap (on_part head (s ++ piece)) (ap (part_of start) (sym same_behind) ∙ b.at.on piece)
+      ∙ ap (on_ran head (s ++ piece) (behind b.body (length sofar) next)) e
+
+  total : len + (length sofar + next.taken) ≡ length s + next.taken
+  total = simp length-drop (omega (arith, all))
+
+  comes : (o : Ran) → next.outcome ≡ o → Comes names (s ++ piece) (length s) (on_outcome head filled (told next) then o)
+  comes More e =
+      going (omega (arith, all_read due piece e, length-append s piece)) (outcome_so More e) (
+        start,
         record {
-          judges = still names s head (Length n) b.judges piece;
-          size = then_size names s piece head filled (Length n) (Length d) memory b piece fits;
-          body = b.body ++ piece;
-          fill = then_fill names s piece head filled (Length n) (Length d) memory b piece fits;
-          held = then_held names s piece head filled (Length n) (Length d) memory b piece fits;
-          so = (simp length-append (omega (arith, b.so.0)), sym behind);
+          judges = still names s head start b.judges piece;
+          size = size;
+          body = b.body ++ next.body;
+          holds = holds;
+          at = subst (λ t. DueAt start t next.due (b.body ++ next.body)) same_behind (goes_on piece b.at e);
         },
       )
+  comes Whole e =
+      let h = take len (s ++ piece) in
+      let body = b.body ++ next.body in
+      let end = filled + length next.body in
+      let lie : Lies head (take len (s ++ piece)) = subst (Lies head) same_front (lies names s head start b.judges) in
+      let fill : filled + length next.body ≡ len + length (b.body ++ next.body) = omega (arith, holds.fill, lie.long) in
+      let room = within holds in
+      let over = finished_over head h body then end lie fill room holds.held in
+      resting record {
+        over = over.0;
+        size = over.1 ∙ size;
+        final = whole (judged_whole head h body) (length s + next.taken);
+        is = outcome_so Whole e ∙ ap (whole (judged_whole head h body)) total;
+        ends = λ z. cc;
+        finds = finished_finds head h body then end lie fill room holds.held;
+        took = λ n. refl;
+      }
+  comes (Wrong w) e = resting record { over = tt; size = size; final = broken w; is = outcome_so (Wrong w) e; ends = λ z. cc; finds = refl; took = λ n. tt }
 
-  has_all : d ≤ length piece → Comes names (s ++ piece) (length s) (ending head (filled + d) d (placed_at filled (take d piece) memory))
-  has_all h =
-      let ys = take d piece in
-      let long : length ys ≡ d = length-take-le d piece h in
-      let fits : filled + length ys ≤ memory_size = omega (arith, room) in
-      let there : len + n ≤ length (s ++ piece) = simp length-append (omega (arith, body_long, b.so.0)) in
-      let total : len + n ≡ length s + d = omega (arith, body_long, b.so.0) in
-      let found : take n (drop len (s ++ piece)) ≡ b.body ++ ys = ap₂ take b.so.0 behind ∙ take-append-add b.body piece d in
-      let is : outcome names (s ++ piece) ≡ whole (judged_whole head (take len (s ++ piece)) (b.body ++ ys)) (length s + d) =
-      outcome_is names s head (Length n) b.judges piece ∙ cond-true _ _ _ (le-leb (len + n) (length (s ++ piece)) there) ∙ ap₂ (λ t m. whole (judged_whole head (take len (s ++ piece)) t) m) found total in
-      resting (subst (λ k. Rests names (s ++ piece) (length s + d) (finished head (filled + k) (placed_at filled ys memory)).reading (finished head (filled + k) (placed_at filled ys memory)).memory) long
-      (then_whole names s piece head filled (Length n) (Length d) memory b ys fits (length s + d) is))
-
-  pub length_fed : Comes names (s ++ piece) (length s) (length_step head filled d memory piece)
-  length_fed =
-      cond_both (ltb (length piece) d) (after (in_body head (filled + length piece) (Length (d - length piece))) (length piece) (placed_at filled piece memory)) (ending head (filled + d) d (placed_at filled (take d piece) memory))
-      (Comes names (s ++ piece) (length s)) (λ e. wants_more (ltb-true _ _ e)) (λ e. has_all (ltb-false _ _ e))
+  pub body_fed : Comes names (s ++ piece) (length s) (due_step (record { head = head; filled = filled; due = due }) memory piece)
+  body_fed =
+      subst (Comes names (s ++ piece) (length s))
+      (sym (ap₂ (on_fed (record { head = head; filled = filled; due = due }) memory) (put piece b.at b.holds enough) (fed piece b.at b.holds enough))) (comes next.outcome refl)

@@ -1,23 +1,24 @@
 -- What is due of a body is found exactly as the grammar says.
-use Rattle.std.proofs.Common.{◌≡◌, ℕ, ◌<◌, Bool, true, false, not, T, ltb, List, map, Some, None, Ok, codes, Option, sym, ap, ◌∙◌}
+use Rattle.std.proofs.Common.{◌≡◌, ℕ, ◌≤◌, Bool, true, false, not, T, leb, List, map, Some, None, Ok, codes, Option, sym, refl, ap, ◌∙◌, arith}
 use Rattle.std.specs.List.{AllByRecursion}
-use Rattle.std.proofs.lemmas.Bool.{cond_both, ltb-true, lt-ltb}
+use Rattle.std.proofs.lemmas.Bool.{cond_both, leb-true, le-leb}
 use Rattle.text.specs.Bytes.{Text, same_no_case}
 use Rattle.text.specs.Numerals.{number_of}
 use Rattle.text.specs.declared.numeral.Base.TheVariants.{Decimal}
 use Rattle.text.proofs.Passing.{is_true, is_false}
+use Rattle.message.specs.Bodies.{due_by, AtStart}
 use Rattle.message.specs.Chunked.{most_bytes, fresh}
 use Rattle.message.specs.Fields.{Field, content_length, transfer_encoding}
 use Rattle.message.specs.Framing.{framed}
 use Rattle.message.specs.Hops.{field_of}
 use Rattle.message.specs.Sent.{Sent}
+use Rattle.message.specs.declared.body.Due.{Due}
+use Rattle.message.specs.declared.body.Due.TheVariants.{Length, Chunks}
 use Rattle.message.specs.declared.framing.Said.{Said}
 use Rattle.message.specs.declared.framing.Size.{Size}
 use Rattle.message.specs.declared.framing.Size.TheVariants.{Length as SaidLength, Chunked as SaidChunked}
-use Rattle.request.specs.Canonical.{carries_body, body_limit}
-use Rattle.request.specs.Heads.{due_by, due_of}
-use Rattle.request.specs.declared.head.Due.{Due}
-use Rattle.request.specs.declared.head.Due.TheVariants.{Length, Chunks}
+use Rattle.request.specs.Canonical.{carries_body}
+use Rattle.request.specs.Heads.{due_of}
 use Rattle.request_laws.specs.Lines.{Named, Unframing, SizeSpelled, Only}
 use Rattle.request_laws.proofs.Framing.{framed_none}
 use Rattle.request_laws.proofs.FramingFaults.{framing_read, framing_spelled}
@@ -26,13 +27,19 @@ use Rattle.request_laws.proofs.SentAmong.{only_field}
 -- what is due of a body by the method and the fields; len: how long the head is
 pub data DueAs (m : Text) (fs : List Field) (len : ℕ) (due : Due) : Type 0 where
   none : T (not (carries_body m)) → AllByRecursion Unframing fs → due ≡ Length 0 → DueAs m fs len due
-  sized : (f : Field) (n : ℕ) → T (carries_body m) → Only Unframing fs f → Named content_length f → number_of Decimal f.value ≡ Some n → n < body_limit → due ≡ Length n → DueAs m fs len due
+  sized : (f : Field) (n : ℕ) → T (carries_body m) → Only Unframing fs f → Named content_length f → number_of Decimal f.value ≡ Some n → n ≤ most_bytes → due ≡ Length n → DueAs m fs len due
   chunked : (f : Field) → T (carries_body m) → Only Unframing fs f → Named transfer_encoding f → T (same_no_case f.value (codes "chunked")) → due ≡ Chunks (fresh most_bytes len) → DueAs m fs len due
+
+-- it is all of a body that may begin behind the head
+pub due_start : (m : Text) (fs : List Field) (len : ℕ) (due : Due) → DueAs m fs len due → AtStart len due
+due_start m fs len due (none b u d) = rw d (omega arith)
+due_start m fs len due (sized f n b o a v l d) = rw d l
+due_start m fs len due (chunked f b o a v d) = rw d refl
 
 size_read : (m : Text) (fs : List Field) (len at : ℕ) (due : Due) (f : Field) (size : Size) → T (carries_body m) → Only Unframing fs f → SizeSpelled f size → due_by size at len ≡ Ok due → DueAs m fs len due
 size_read m fs len at due f (SaidLength n) b o s =
-    cond_both (ltb n body_limit) _ _ (λ r. r ≡ Ok due → DueAs m fs len due)
-    (λ h e. sized f n b o s.0 s.1 (ltb-true n body_limit h) (cc))
+    cond_both (leb n most_bytes) _ _ (λ r. r ≡ Ok due → DueAs m fs len due)
+    (λ h e. sized f n b o s.0 s.1 (leb-true n most_bytes h) (cc))
     (λ h e. cc)
 size_read m fs len at due f SaidChunked b o s = λ e. chunked f b o s.0 s.1 (cc)
 
@@ -52,7 +59,7 @@ pub due_spelled : (m : Text) (fs : List Sent) (len : ℕ) (due : Due) → DueAs 
 due_spelled m fs len due (none b u e) = (None, framed_none None fs u, rw (is_false (carries_body m) b) (ap Ok (sym e)))
 due_spelled m fs len due (sized f n b o a v l e) =
     let s = framing_spelled fs f (SaidLength n) o (a, v) in
-    (Some s.0, s.1, said_due m s.0 (SaidLength n) len due b s.2 (rw (lt-ltb n body_limit l) (ap Ok (sym e))))
+    (Some s.0, s.1, said_due m s.0 (SaidLength n) len due b s.2 (rw (le-leb n most_bytes l) (ap Ok (sym e))))
 due_spelled m fs len due (chunked f b o a v e) =
     let s = framing_spelled fs f SaidChunked o (a, v) in
     (Some s.0, s.1, said_due m s.0 SaidChunked len due b s.2 (ap Ok (sym e)))

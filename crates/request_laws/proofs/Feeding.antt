@@ -1,54 +1,55 @@
 -- Feeding the bytes in pieces finds what reading them all at once finds: induction over the pieces.
-use Rattle.std.proofs.Common.{◌≡◌, ℕ, ◌+◌, ◌^◌, ◌<◌, ◌≤◌, true, List, [], ◌∷◌, ◌++◌, length, take, None, Ok, sym, refl, ap, ◌∙◌, subst, ap₂, append_assoc, append-nil, add-zero, zero-add, arith}
-use Rattle.std.proofs.lemmas.List.{length-append, length-take, length-take-le, take_all}
+use Rattle.std.proofs.Common.{◌≡◌, ℕ, ◌+◌, ◌-◌, ◌^◌, ◌<◌, ◌≤◌, true, List, [], ◌∷◌, ◌++◌, length, take, None, Ok, sym, refl, ap, ◌∙◌, subst, ap₂, append_assoc, append-nil, add-zero, zero-add, arith}
+use Rattle.std.proofs.lemmas.List.{length-append, length-take-le, take_all}
 use Rattle.std.proofs.lemmas.Bool.{cond-true, and_from, eq-eqb, le-leb}
 use Rattle.text.specs.Bytes.{Text}
+use Rattle.message.specs.Bodies.{fits}
+use Rattle.message.specs.declared.body.Due.{Due}
+use Rattle.message_laws.proofs.Standing.{within}
 use Rattle.request.specs.Found.{more, found_in}
 use Rattle.request.specs.Heads.{window, judged}
 use Rattle.request.specs.Reading.{After, after, further, memory_size, fits_due, fits_in, step, due_step}
 use Rattle.request.specs.declared.head.Head.{Head}
-use Rattle.request.specs.declared.head.Due.{Due}
-use Rattle.request.specs.declared.head.Due.TheVariants.{Length, Chunks}
 use Rattle.request.specs.declared.reading.Reading.{Reading}
 use Rattle.request.specs.declared.reading.Reading.TheVariants.{InHead, InBody, Whole, Refused}
 use Rattle.request_laws.specs.Laws.{joined, taking, on_fed, feeding, finding_of, Took, CutFree}
 use Rattle.request_laws.specs.Outcome.{Outcome, wants, on_head, outcome}
-use Rattle.request_laws.proofs.BodyFed.{room}
-use Rattle.request_laws.proofs.HeadFed.{body_fed, head_fed}
+use Rattle.request_laws.proofs.BodyFed.{body_fed}
+use Rattle.request_laws.proofs.HeadFed.{head_fed}
 use Rattle.request_laws.proofs.HeadPasses.{room_left}
 use Rattle.request_laws.proofs.OutcomeStays.{outcome_stays}
 use Rattle.request_laws.proofs.RequestFinished.{Over}
-use Rattle.request_laws.proofs.Stands.{capacity, Body, Stands, Rests, At, going, resting, Comes, known, in_window, in_all}
+use Rattle.request_laws.proofs.Stands.{capacity, Body, Stands, Rests, At, going, resting, Comes, known, in_window, in_all, has_room}
 
 -- a piece that comes while more is wanted
 step_fed : (names : List Text) (s piece : Text) (r : Reading) (memory : Text) → Stands names s r memory → length (s ++ piece) < 2 ^ 64 → Comes names (s ++ piece) (length s) (step names r memory piece)
 step_fed names s piece (InHead filled) memory (size, fill, held, unended) counted = head_fed names s piece filled memory size fill held unended counted
 step_fed names s piece (InBody h) memory (start, b) counted =
-    let x = due_step h.head h.filled h.due memory piece in
+    let x = due_step h memory piece in
     subst (λ n. At names (s ++ piece) (length s + n) x.reading x.memory) (sym (zero-add x.taken)) (body_fed names s piece h.head h.filled start h.due memory b counted)
 step_fed names s piece (Whole head end) memory st counted = absurd st
 step_fed names s piece (Refused w) memory st counted = absurd st
 
 -- the memory fits
-due_fits : (names : List Text) (s : Text) (head : Head) (filled : ℕ) (start due : Due) (memory : Text) → Body names s head filled start due memory → fits_due (length memory) filled due ≡ true
-due_fits names s head filled (Length n) (Length d) memory b = le-leb _ _ (let h = room names s [] head filled n d memory b in omega (arith, b.size))
-due_fits names s head filled (Chunks c) (Chunks d) memory b =
-    let long = length-take-le head.len s (in_all names s head (Chunks c) b.judges) in
-    le-leb _ _ (omega (arith, ap length b.held, length-take filled memory, length-append (take head.len s) b.body, b.fill))
-due_fits names s head filled (Length n) (Chunks d) memory b = absurd b.so
-due_fits names s head filled (Chunks c) (Length d) memory b = absurd b.so
+due_fits : (names : List Text) (s : Text) (head : Head) (filled : ℕ) (start due : Due) (memory : Text) → Body names s head filled start due memory → length s < 2 ^ 64 → fits_due (length memory) filled due ≡ true
+due_fits names s head filled start due memory b counted =
+    let none = append-nil s in
+    let long = length-take-le head.len s (in_all names s head start b.judges) in
+    let room = (b.at.room [] (memory_size - head.len) (has_room names s head start b.judges [] (rw none counted))).1 in
+    let left : memory_size - head.len - length b.body ≡ length memory - filled = omega (arith, b.holds.fill, b.size) in
+    and_from _ _ (le-leb filled (length memory) (within b.holds)) (ap (λ n. fits due n 0) (sym left) ∙ room)
 
-state_fits : (names : List Text) (s : Text) (r : Reading) (memory : Text) → Stands names s r memory → fits_in (length memory) r ≡ true
-state_fits names s (InHead filled) memory (size, fill, held, unended) =
+state_fits : (names : List Text) (s : Text) (r : Reading) (memory : Text) → Stands names s r memory → length s < 2 ^ 64 → fits_in (length memory) r ≡ true
+state_fits names s (InHead filled) memory (size, fill, held, unended) counted =
     let in_window : filled ≤ window = omega (arith, room_left names s unended) in
     and_from _ _ (eq-eqb (length memory) memory_size size) (le-leb filled window in_window)
-state_fits names s (InBody h) memory (start, b) =
+state_fits names s (InBody h) memory (start, b) counted =
     let head = h.head in
     let k = known names s head start b.judges in
     let there : head.method + 1 + head.target ≤ length memory = omega (arith, k.parts, k.fields, in_window names s head start b.judges, capacity, b.size) in
-    and_from _ _ (eq-eqb (length memory) memory_size b.size) (and_from _ _ (le-leb (head.method + 1 + head.target) (length memory) there) (due_fits names s head h.filled start h.due memory b))
-state_fits names s (Whole head end) memory st = absurd st
-state_fits names s (Refused w) memory st = absurd st
+    and_from _ _ (eq-eqb (length memory) memory_size b.size) (and_from _ _ (le-leb (head.method + 1 + head.target) (length memory) there) (due_fits names s head h.filled start h.due memory b counted))
+state_fits names s (Whole head end) memory st counted = absurd st
+state_fits names s (Refused w) memory st counted = absurd st
 
 -- one call, where the memory fits
 feed_one : (names : List Text) (r : Reading) (memory p : Text) (ps : List Text) (a : After) → fits_in (length memory) r ≡ true → feeding names (step names r memory p).reading (step names r memory p).memory ps ≡ Ok a → feeding names r memory (p ∷ ps) ≡ Ok (further (step names r memory p).taken a)
@@ -101,7 +102,7 @@ feeds names s n r memory (p ∷ ps) (going count is st) counted =
     let now : length (s ++ p) < 2 ^ 64 = omega (arith, length-append (s ++ p) (joined ps)) in
     let next = feeds names (s ++ p) (length s + x.taken) x.reading x.memory ps (step_fed names s p r memory st now) fewer in
     let sum : length s + x.taken + next.0.taken ≡ n + (x.taken + next.0.taken) = omega arith in
-    let whole : Feeds names ((s ++ p) ++ joined ps) n r memory (p ∷ ps) = feeds_by names ((s ++ p) ++ joined ps) n (length s + x.taken + next.0.taken) r memory (p ∷ ps) (further x.taken next.0) (outcome names ((s ++ p) ++ joined ps)) refl (feed_one names r memory p ps next.0 (state_fits names s r memory st) next.1) next.2 sum next.3 in
+    let whole : Feeds names ((s ++ p) ++ joined ps) n r memory (p ∷ ps) = feeds_by names ((s ++ p) ++ joined ps) n (length s + x.taken + next.0.taken) r memory (p ∷ ps) (further x.taken next.0) (outcome names ((s ++ p) ++ joined ps)) refl (feed_one names r memory p ps next.0 (state_fits names s r memory st (omega (arith, length-append s p))) next.1) next.2 sum next.3 in
     subst (λ t. Feeds names t n r memory (p ∷ ps)) all whole
 
 -- nothing has come yet

@@ -3,16 +3,19 @@ use Rattle.std.proofs.Common.{◌≡◌, ℕ, ◌+◌, ◌<◌, ◌≤◌, leb, 
 use Rattle.std.proofs.lemmas.List.{length-map, length-take, drop_at}
 use Rattle.std.proofs.lemmas.Bool.{cond_both, cond-false, lt-leb, leb-false}
 use Rattle.text.specs.Bytes.{Text}
-use Rattle.message.specs.Chunked.{Run, run, most_bytes, fresh}
+use Rattle.message.specs.Bodies.{Part, part_of}
+use Rattle.message.specs.Chunked.{most_bytes, fresh}
 use Rattle.message.specs.Faults.{flaw}
 use Rattle.message.specs.Hops.{field_of, kept_of}
 use Rattle.message.specs.Sent.{Sent}
-use Rattle.message.specs.declared.chunked.Chunk.{Chunk}
+use Rattle.message.specs.declared.body.Due.{Due}
+use Rattle.message.specs.declared.body.Due.TheVariants.{Chunks}
 use Rattle.message.specs.declared.chunked.Outcome.{Outcome as Ran}
 use Rattle.message.specs.declared.chunked.Outcome.TheVariants.{More, Whole, Wrong}
 use Rattle.message.specs.declared.fault.Fault.TheVariants.{TooLong}
 use Rattle.message.specs.declared.fault.Flaw.{Flaw}
 use Rattle.message.specs.declared.framing.Size.TheVariants.{Chunked}
+use Rattle.message_laws.proofs.Parts.{counted_good}
 use Rattle.message_laws.proofs.Refused.{refused as chunks_refused}
 use Rattle.request.specs.Canonical.{Req, head_limit, field_limit}
 use Rattle.request.specs.Found.{fault, limited}
@@ -20,14 +23,12 @@ use Rattle.request.specs.Heads.{window, judged}
 use Rattle.request.specs.Targets.{check_target}
 use Rattle.request.specs.Writing.{head_length}
 use Rattle.request.specs.declared.head.Head.{Head}
-use Rattle.request.specs.declared.head.Due.{Due}
-use Rattle.request.specs.declared.head.Due.TheVariants.{Length, Chunks}
 use Rattle.request.specs.declared.head.Judged.{Judged}
 use Rattle.request_laws.specs.FaultLaws.{FaultIsFirst}
 use Rattle.request_laws.specs.Faults.{LineFault, HeadFault, AsFields, AllCame, FirstFault, in_lines, in_head, in_chunks, in_target, in_canonical}
 use Rattle.request_laws.specs.Laws.{finding_of}
 use Rattle.request_laws.specs.Lines.{Unframing, SizeSpelled}
-use Rattle.request_laws.specs.Outcome.{whole, on_target, on_run, on_due, on_head, outcome}
+use Rattle.request_laws.specs.Outcome.{whole, on_target, on_ran, on_part, on_due, on_head, outcome}
 use Rattle.request_laws.proofs.BodyRead.{body_read, body_spelled}
 use Rattle.request_laws.proofs.Dues as dues
 use Rattle.request_laws.proofs.Dues.{DueAs}
@@ -42,21 +43,11 @@ use Rattle.request_laws.proofs.WholeHead.{headed, headed_all, head_of}
 
 -- WHAT IS FOUND IS THE FIRST
 
--- a fault behind a head that is let pass is one of a whole request, or of its chunks
-run_fault : (head : Head) (s : Text) (r : Run) (o : Ran) (v : Flaw) → finding_of (on_run head s r o) ≡ fault v → ((n : ℕ) × (on_run head s r o ≡ whole (fault v) n)) ⊎ (o ≡ Wrong v)
-run_fault head s r More v e = cc
-run_fault head s r (Wrong w) v e = inr (cc)
-run_fault head s r Whole v e = inl (head.len + r.taken, ap (λ f. whole f (head.len + r.taken)) e)
-
-due_fault : (head : Head) (s : Text) (due : Due) (v : Flaw) → finding_of (on_due head s due) ≡ fault v →
-    ((n : ℕ) × (on_due head s due ≡ whole (fault v) n)) ⊎ ((c : Chunk) × (due ≡ Chunks c) × ((run c (drop head.len s)).outcome ≡ Wrong v))
-due_fault head s (Length n) v =
-    cond_both (leb (head.len + n) (length s)) _ _ (λ o. finding_of o ≡ fault v → ((n : ℕ) × (o ≡ whole (fault v) n)) ⊎ ((c : Chunk) × (Length n ≡ Chunks c) × ((run c (drop head.len s)).outcome ≡ Wrong v)))
-    (λ _ e. inl (head.len + n, ap (λ f. whole f (head.len + n)) e))
-    (λ _ e. cc)
-due_fault head s (Chunks c) v = λ e.
-    let r = run c (drop head.len s) in
-    elim (run_fault head s r r.outcome v e) [ inl w ↦ inl w | inr w ↦ inr (c, refl, w) ]
+-- a fault behind a head that is let pass is one of a whole request, or of its body
+part_fault : (head : Head) (s : Text) (p : Part) (o : Ran) (v : Flaw) → finding_of (on_ran head s p o) ≡ fault v → ((n : ℕ) × (on_ran head s p o ≡ whole (fault v) n)) ⊎ (o ≡ Wrong v)
+part_fault head s p More v e = cc
+part_fault head s p (Wrong w) v e = inr (cc)
+part_fault head s p Whole v e = inl (head.len + p.taken, ap (λ f. whole f (head.len + p.taken)) e)
 
 -- a canonical head that is too long
 limited_fault : (k len : ℕ) (q : Req) (v : Flaw) → limited k len q ≡ fault v → (head_limit < head_length q) × (flaw TooLong len ≡ v)
@@ -107,20 +98,20 @@ module _ (names : List Text) (s : Text) (v : Flaw) (j : Judged) (a : Placed name
       target_fault b.body (check_target t) came refl (sym (target_judged m t a.lines a.server b.body) ∙ b.is)
 
   -- in the chunks
-  chunks_fault : (c : Chunk) → DueAs m (AsFields a.fields) (length h) a.due → a.due ≡ Chunks c → (run c (drop (length h) s)).outcome ≡ Wrong v → FirstFault names s v
-  chunks_fault c (dues.none b u d) is w = cc
-  chunks_fault c (dues.sized f n b o x y l d) is w = cc
-  chunks_fault c (dues.chunked f b o x y d) is w =
-      let same : c ≡ fresh most_bytes (length h) = cc in
+  chunks_fault : (due : Due) → DueAs m (AsFields a.fields) (length h) due → (part_of due (drop (length h) s)).outcome ≡ Wrong v → FirstFault names s v
+  chunks_fault due (dues.none b u d) w = absurd (counted_good 0 (drop (length h) s) v (ap (λ x. (part_of x (drop (length h) s)).outcome) (sym d) ∙ w))
+  chunks_fault due (dues.sized f n b o x y l d) w = absurd (counted_good n (drop (length h) s) v (ap (λ x. (part_of x (drop (length h) s)).outcome) (sym d) ∙ w))
+  chunks_fault due (dues.chunked f b o x y d) w =
       let g = only_sent Unframing a.fields f o in
-      in_chunks a.server g.0 (placed_good names s j a) b g.1 (subst (λ f. SizeSpelled f Chunked) (sym g.2) (x, y)) ((chunks_refused most_bytes (length h) (drop (length h) s) v).0 (ap (λ i. (run i (drop (length h) s)).outcome) (sym same) ∙ w))
+      in_chunks a.server g.0 (placed_good names s j a) b g.1 (subst (λ f. SizeSpelled f Chunked) (sym g.2) (x, y)) ((chunks_refused most_bytes (length h) (drop (length h) s) v).0 (ap (λ x. (part_of x (drop (length h) s)).outcome) (sym d) ∙ w))
 
   behind_fault : finding_of (on_due j.head s j.due) ≡ fault v → FirstFault names s v
   behind_fault e =
       let there : finding_of (on_due head s a.due) ≡ fault v = ap (λ i. finding_of (on_due i.head s i.due)) (sym a.is) ∙ e in
-      elim (due_fault head s a.due v there) [
+      let p = part_of a.due (drop (length h) s) in
+      elim (part_fault head s p p.outcome v there) [
         | inl (n, w) ↦ whole_fault n (ap (λ u. on_due head u a.due) (sym joined) ∙ w)
-        | inr (c, is, w) ↦ chunks_fault c a.due_good is w
+        | inr w ↦ chunks_fault a.due a.due_good w
       ]
 
 in_window : (s : Text) → length (take window s) ≤ window
@@ -160,8 +151,8 @@ first_found names s v (in_chunks {m} {t} {fs} {len} k f g b o z c) =
     let head = head_of m t p.lines k in
     let start = fresh most_bytes len in
     ap (λ r. finding_of (on_head s r)) (p.passes (Chunks start) (dues.chunked (field_of f) b (only_field Unframing fs f o) z.0 z.1 refl))
-    ∙ ap (λ n. finding_of (on_run head s (run start (drop n s)) (run start (drop n s)).outcome)) p.long
-    ∙ ap (λ x. finding_of (on_run head s (run start (drop len s)) x)) ((chunks_refused most_bytes len (drop len s) v).1 c)
+    ∙ ap (λ n. finding_of (on_part head s (part_of (Chunks start) (drop n s)))) p.long
+    ∙ ap (λ x. finding_of (on_ran head s (part_of (Chunks start) (drop len s)) x)) ((chunks_refused most_bytes len (drop len s) v).1 c)
 first_found names s v (in_target {m} {t} {body} {fs} {len} {v = w} k came f) =
     let c = came_found names s m t fs len k body came in
     c.1 ∙ ap (on_target (head_of m t c.0.lines k) (headed m t c.0.lines []) body) (fault_found t w f)

@@ -1,24 +1,26 @@
 -- What the fields of a head say of the body, or what is wrong with it, is what the grammar says.
-use Rattle.std.proofs.Common.{◌≡◌, ℕ, Bool, true, false, ◌||◌, ltb, List, [], ◌∷◌, ◌++◌, IfErr, Some, None, Ok, Err, Option, Result, sym, refl, ap, ◌∙◌, subst, ⊎_elim}
+use Rattle.std.proofs.Common.{◌≡◌, ℕ, suc, Bool, true, false, ◌||◌, leb, List, [], ◌∷◌, ◌++◌, IfErr, Some, None, Ok, Err, Option, Result, sym, refl, ap, ◌∙◌, subst, ⊎_elim, arith}
 use Rattle.std.specs.Result as results
 use Rattle.std.specs.List.{AllByRecursion}
 use Rattle.std.proofs.lemmas.Result.{MatchResult-weaker, MatchResult-at_ok}
-use Rattle.std.proofs.lemmas.Bool.{cond_both, cases_Bool, ltb-false, le-ltb}
+use Rattle.std.proofs.lemmas.Bool.{cond_both, cases_Bool, leb-false, lt-leb}
 use Rattle.text.specs.Bytes.{Text, same_no_case}
 use Rattle.text.proofs.Passing.{is_true, is_false}
+use Rattle.message.specs.Bodies.{due_by}
+use Rattle.message.specs.Chunked.{most_bytes}
 use Rattle.message.specs.Faults.{flaw, onward}
 use Rattle.message.specs.Fields.{Field, content_length, transfer_encoding}
 use Rattle.message.specs.Framing.{Says, says_of, said_in, say_on, framed}
 use Rattle.message.specs.Hops.{field_of}
 use Rattle.message.specs.Sent.{Sent}
+use Rattle.message.specs.declared.body.Due.{Due}
 use Rattle.message.specs.declared.fault.Fault.TheVariants.{Framing}
 use Rattle.message.specs.declared.fault.Flaw.{Flaw}
 use Rattle.message.specs.declared.framing.Size.{Size}
 use Rattle.message.specs.declared.framing.Size.TheVariants.{Length, Chunked}
 use Rattle.message.specs.declared.framing.Said.{Said as Saying}
 use Rattle.request.specs.Canonical.{carries_body, body_limit}
-use Rattle.request.specs.Heads.{due_by, due_of}
-use Rattle.request.specs.declared.head.Due.{Due}
+use Rattle.request.specs.Heads.{due_of}
 use Rattle.request_laws.specs.Faults.{AsFields, FirstOther, OnlySent, IsFraming, FramingFault, nonsense, second, Said, nothing, once, BodyFault, unsaid, unwanted, too_long}
 use Rattle.request_laws.specs.Lines.{Unframing, SizeSpelled, Only}
 use Rattle.request_laws.proofs.Framing.{Means, says_means, says_nothing, says_size, framed_past, framed_none}
@@ -123,6 +125,11 @@ framing_refused fs v (second f g size o s i) =
 
 -- THE BODY
 
+-- the most bytes that a body may have
+pub most_is : suc most_bytes ≡ body_limit
+unfolding most_bytes
+most_is = refl
+
 pub said_by_so : (fs : List Sent) (o : Option Saying) → SaidIn fs o → Said fs
 said_by_so fs None h = nothing h
 said_by_so fs (Some s) h = once h.0 h.1 h.2 h.3
@@ -144,7 +151,7 @@ module _ (m : Text) (fs : List Sent) (len : ℕ) where
 
   due_wrong : (f : Sent) (size : Size) → carries_body m ≡ true → OnlySent Unframing fs f → SizeSpelled (field_of f) size → Wrong (due_by size f.value_at len)
   due_wrong f Chunked b o s = tt
-  due_wrong f (Length n) b o s = cond_both (ltb n body_limit) _ _ Wrong (λ _. tt) (λ e. too_long f n (rw b tt) o s (ltb-false n body_limit e))
+  due_wrong f (Length n) b o s = cond_both (leb n most_bytes) _ _ Wrong (λ _. tt) (λ e. too_long f n (rw b tt) o s (omega (arith, leb-false n most_bytes e, most_is)))
 
   -- what a head says of the body is wanted and not too large, or that is wrong with it
   pub body_wrong : (b : Bool) (o : Option Saying) → carries_body m ≡ b → SaidIn fs o → Wrong (due_of b o len)
@@ -156,4 +163,4 @@ module _ (m : Text) (fs : List Sent) (len : ℕ) where
   pub body_refused : (v : Flaw) → BodyFault m fs len v → (o : Option Saying) × (framed None fs ≡ Ok o) × (due_of (carries_body m) o len ≡ Err v)
   body_refused v (unsaid b h) = (None, framed_none None fs h, rw (is_true (carries_body m) b))
   body_refused v (unwanted f size b o s) = (Some (said_in f size), only_found f size fs o s, rw (is_false (carries_body m) b))
-  body_refused v (too_long f n b o s h) = (Some (said_in f (Length n)), only_found f (Length n) fs o s, rw (is_true (carries_body m) b, le-ltb n body_limit h))
+  body_refused v (too_long f n b o s h) = (Some (said_in f (Length n)), only_found f (Length n) fs o s, rw (is_true (carries_body m) b, lt-leb n most_bytes (omega (arith, most_is))))

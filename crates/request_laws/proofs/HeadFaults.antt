@@ -5,12 +5,12 @@ use Rattle.text.specs.Bytes.{Text}
 use Rattle.message.specs.Faults.{onward}
 use Rattle.message.specs.Framing.{framed}
 use Rattle.message.specs.Sent.{Sent}
+use Rattle.message.specs.declared.body.Due.{Due}
 use Rattle.message.specs.declared.fault.Flaw.{Flaw}
 use Rattle.message.specs.declared.framing.Said.{Said as Saying}
 use Rattle.request.specs.Canonical.{carries_body}
 use Rattle.request.specs.Heads.{due_of, judged_fields}
 use Rattle.request.specs.Hosts.{server_of}
-use Rattle.request.specs.declared.head.Due.{Due}
 use Rattle.request_laws.specs.Faults.{AsFields, HostFault, FramingFault, BodyFault, HeadIn, HeadFault, host, framing, body}
 use Rattle.request_laws.specs.Lines.{HostSpelled}
 use Rattle.request_laws.proofs.Hosts.{host_spelled}

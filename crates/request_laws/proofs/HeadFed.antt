@@ -4,37 +4,19 @@ use lib.Seq.{drop-append-add}
 use Rattle.std.proofs.lemmas.List.{length-append, length-take, length-take-le, take_all, take-take, take-append-le, take-append-drop, drop_all}
 use Rattle.std.proofs.lemmas.Bool.{cases_lt}
 use Rattle.text.specs.Bytes.{Text}
-use Rattle.message.specs.Chunked.{run}
-use Rattle.message.specs.declared.chunked.Outcome.TheVariants.{More}
 use Rattle.message.specs.declared.fault.Flaw.{Flaw}
+use Rattle.message_laws.proofs.Standing.{DueAt, begins}
 use Rattle.request.specs.Heads.{window, judged}
 use Rattle.request.specs.Reading.{memory_size, placed_at, on_judged, head_step, due_step, body_after}
-use Rattle.request.specs.declared.head.Head.{Head}
-use Rattle.request.specs.declared.head.Due.{Due}
-use Rattle.request.specs.declared.head.Due.TheVariants.{Length, Chunks}
 use Rattle.request.specs.declared.head.Judged.{Judged}
 use Rattle.request_laws.specs.Outcome.{broken, on_head}
-use Rattle.request_laws.proofs.BodyFed.{length_fed}
-use Rattle.request_laws.proofs.ChunksFed.{chunks_fed}
+use Rattle.request_laws.proofs.BodyFed.{body_fed}
 use Rattle.request_laws.proofs.HeadPasses.{room_left}
 use Rattle.request_laws.proofs.HeadSound.{sound}
 use Rattle.request_laws.proofs.HeadStays.{head_stays}
 use Rattle.request_laws.proofs.Leads.{take_joined}
 use Rattle.request_laws.proofs.MemoryPlaced.{front_within, placed_long, placed_upto}
-use Rattle.request_laws.proofs.Stands.{capacity, Due-so, Body, At, going, resting, Comes}
-
--- a piece of a body
-pub body_fed : (names : List Text) (s piece : Text) (head : Head) (filled : ℕ) (start due : Due) (memory : Text) → Body names s head filled start due memory → length (s ++ piece) < 2 ^ 64 → Comes names (s ++ piece) (length s) (due_step head filled due memory piece)
-body_fed names s piece head filled (Length n) (Length d) memory b counted = length_fed names s piece head filled n d memory b
-body_fed names s piece head filled (Chunks c) (Chunks d) memory b counted = chunks_fed names s piece head filled c d memory b counted
-body_fed names s piece head filled (Length n) (Chunks d) memory b counted = absurd b.so
-body_fed names s piece head filled (Chunks c) (Length d) memory b counted = absurd b.so
-
--- at the end of a head nothing has come of the body
-none_yet : (len : ℕ) (s : Text) (due : Due) → length s ≤ len → Due-so len s [] due due
-unfolding run
-none_yet len s (Length n) h = (omega arith, sym (drop_all len s h))
-none_yet len s (Chunks c) h = let none = drop_all len s h in ap (run c) none ∙ ap (λ t. record { chunk = c; body = []; taken = length t; outcome = More }) (sym none)
+use Rattle.request_laws.proofs.Stands.{capacity, Body, At, going, resting, Comes}
 
 -- a head that is let pass ends behind bytes of which more was wanted
 ends_behind : (names : List Text) (s t : Text) (j : Judged) → judged names s ≡ Ok None → judged names (s ++ t) ≡ Ok (Some j) → length s ≤ j.head.len
@@ -111,15 +93,18 @@ module _ (names : List Text) (s piece : Text) (filled : ℕ) (memory : Text) (si
       let joined : first ++ rest ≡ s ++ piece = ap (λ t. first ++ t) (sym (drop-append-add s piece (n - filled)) ∙ ap (λ i. drop i (s ++ piece)) (sym far)) ∙ take-append-drop n (s ++ piece) in
       let long : length first ≡ n = length-take-le n (s ++ piece) in_all in
       let alone : first ≡ take n (take window (s ++ piece)) = sym (take-take n window (s ++ piece) in_window) in
+      let own = take_all n first (omega arith) in
       let b : Body names first j.head n j.due j.due then = record {
         judges = ap (judged names) (take_all window first (omega arith) ∙ alone) ∙ k.alone;
         size = then_size;
         body = [];
-        fill = omega arith;
-        held = front_within n (filled + length stored) then (take window (s ++ piece)) in-seen seen ∙ sym alone ∙ sym (append-nil (take n first) ∙ take_all n first (omega arith));
-        so = none_yet n first j.due (omega arith);
+        holds = record {
+          fill = omega (arith, ap length own);
+          held = front_within n (filled + length stored) then (take window (s ++ piece)) in-seen seen ∙ sym alone ∙ sym (append-nil (take n first) ∙ own);
+        };
+        at = subst (λ t. DueAt j.due t j.due []) (sym (drop_all n first (omega arith))) (begins j.due);
       } in
-      let x = due_step j.head n j.due then rest in
+      let x = due_step (record { head = j.head; filled = n; due = j.due }) then rest in
       let count : length first + x.taken ≡ length s + (n - filled + x.taken) = omega arith in
       let fed = body_fed names first rest j.head n j.due j.due then b (rw joined counted) in
       subst (λ m. At names (s ++ piece) m x.reading x.memory) count (subst (λ t. At names t (length first + x.taken) x.reading x.memory) joined fed)

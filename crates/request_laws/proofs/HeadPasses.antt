@@ -5,13 +5,13 @@ use Rattle.text.specs.Bytes.{Text}
 use Rattle.text.specs.Cuts.{LineCut, whole, short, stray, cut_line}
 use Rattle.message.specs.Faults.{flaw}
 use Rattle.message.specs.Sent.{Sent, Found, ended, more, wrong, fields_in}
+use Rattle.message.specs.declared.body.Due.{Due}
 use Rattle.message.specs.declared.fault.Fault.TheVariants.{TooLong}
 use Rattle.message.specs.declared.fault.Flaw.{Flaw}
 use Rattle.request.specs.Canonical.{field_limit}
 use Rattle.request.specs.First.{check_first}
 use Rattle.request.specs.Heads.{window, unended_at, judged_fields, judged_as, on_fields, on_first, judged}
 use Rattle.request.specs.declared.first.First.{First}
-use Rattle.request.specs.declared.head.Due.{Due}
 use Rattle.request.specs.declared.head.Judged.{Judged}
 use Rattle.request_laws.proofs.First.{first_stray}
 use Rattle.request_laws.proofs.Onward.{onward_both}

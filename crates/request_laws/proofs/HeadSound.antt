@@ -1,38 +1,24 @@
 -- The parts of a head that is let pass lie in it, and it in what has come; nothing behind its end matters.
-use Rattle.std.proofs.Common.{◌≡◌, ℕ, ◌+◌, ◌<◌, ◌≤◌, List, [], ◌++◌, length, take, Some, Ok, sym, refl, ap, ◌∙◌, subst, arith}
+use Rattle.std.proofs.Common.{◌≡◌, ◌+◌, ◌≤◌, List, [], ◌++◌, length, take, Some, Ok, sym, refl, ap, ◌∙◌, subst, arith}
 use Rattle.std.proofs.lemmas.List.{length-append, length-map, take_at}
 use Rattle.text.specs.Bytes.{Text}
-use Rattle.message.specs.Chunked.{most_bytes, fresh}
-use Rattle.message.specs.Fields.{Field}
+use Rattle.message.specs.Bodies.{AtStart}
 use Rattle.message.specs.Sent.{Sent, ended, fields_in}
-use Rattle.request.specs.Canonical.{body_limit, field_limit, first_line}
+use Rattle.request.specs.Canonical.{field_limit, first_line}
 use Rattle.request.specs.Heads.{judged}
-use Rattle.request.specs.declared.head.Due.{Due}
-use Rattle.request.specs.declared.head.Due.TheVariants.{Length, Chunks}
 use Rattle.request.specs.declared.head.Judged.{Judged}
 use Rattle.request_laws.specs.Faults.{AsFields}
-use Rattle.request_laws.proofs.Dues.{DueAs}
-use Rattle.request_laws.proofs.Dues as dues
+use Rattle.request_laws.proofs.Dues.{due_start}
 use Rattle.request_laws.proofs.LineFaults.{lines_spelled}
 use Rattle.request_laws.proofs.PlacedHead.{head_placed, placed_again}
 use Rattle.request_laws.proofs.WholeHead.{headed, headed_on, headed_long, fields_there}
-
--- a length that is due is not too long, and chunks begin where the head ends
-abbrev pub GoodDue : ℕ → Due → Type 0
-GoodDue len (Length n) = n < body_limit
-GoodDue len (Chunks c) = c ≡ fresh most_bytes len
-
-due_so : (m : Text) (fs : List Field) (len : ℕ) (due : Due) → DueAs m fs len due → GoodDue len due
-due_so m fs len due (dues.none b u d) = rw d (omega arith)
-due_so m fs len due (dues.sized f n b o a v l d) = rw d l
-due_so m fs len due (dues.chunked f b o a v d) = rw d refl
 
 -- what is known of a head that is let pass
 pub record Sound (names : List Text) (w : Text) (j : Judged) : Type 0 where
   pub parts : j.head.method + 1 + j.head.target ≤ j.head.fields
   pub fields : j.head.fields ≤ j.head.len
   pub within : j.head.len ≤ length w
-  pub due : GoodDue j.head.len j.due
+  pub due : AtStart j.head.len j.due
   pub sent : List Sent
   pub ends : fields_in field_limit (take j.head.len w) j.head.fields ≡ ended sent j.head.len
   pub alone : judged names (take j.head.len w) ≡ Ok (Some j)
@@ -53,7 +39,7 @@ sound names w j e =
       parts = simp length-append (omega arith);
       fields = omega (arith, long);
       within = omega (arith, ap length text, length-append h a.rest);
-      due = due_so m (AsFields a.fields) (length h) a.due a.due_good;
+      due = due_start m (AsFields a.fields) (length h) a.due a.due_good;
       sent = found.0;
       ends = ap (λ u. fields_in field_limit u (length (first_line m t) + 2)) own ∙ found.1;
       alone = ap (judged names) own ∙ placed_again names w j a [] ∙ ap (λ i. Ok (Some i)) a.is;

@@ -29,7 +29,6 @@ pub mod TargetShort
 pub mod RequestFinished
 pub mod Stands
 pub mod BodyFed
-pub mod ChunksFed
 pub mod HeadFed
 pub mod Feeding
 pub mod TokenFaults

@@ -3,8 +3,7 @@ use Rattle.std.proofs.Common.{◌≡◌, ℕ, ◌+◌, ◌-◌, ◌≤◌, ◌++
 use borrow.Rule.Slice.PartMut.{put_mid}
 use Rattle.std.proofs.lemmas.List.{length-append, length-take-le, length-drop, take-take, drop_at, drop-drop, drop-take}
 use Rattle.std.proofs.lemmas.Slice.{take-put_mid_below, take-put_mid, drop-put_mid}
-use Rattle.text.specs.Bytes.{Text, placed}
-use Rattle.text.proofs.Places.{placed_fits}
+use Rattle.text.specs.Bytes.{Text}
 use Rattle.request.specs.Reading.{placed_at}
 
 -- a part that lies in the front of a text
@@ -46,9 +45,3 @@ module _ (n : ℕ) (ys xs : Text) (room : n + length ys ≤ length xs) where
   -- what lies behind that is as it was
   pub placed_behind : (k : ℕ) → n + length ys ≤ k → drop k (placed_at n ys xs) ≡ drop k xs
   placed_behind k h = ap (drop k) is_put ∙ drop-put_mid n (length ys) xs ys k h inside refl
-
-  -- a write to the front of what lies behind a place is a write to that place
-  pub placed_on : take n xs ++ placed ys (drop n xs) ≡ placed_at n ys xs
-  placed_on =
-      let fits : length ys ≤ length (drop n xs) = simp length-drop (omega arith) in
-      ap (λ zs. take n xs ++ zs) (placed_fits ys (drop n xs) fits) ∙ ap (λ zs. take n xs ++ (ys ++ zs)) (drop-drop (length ys) n xs)

@@ -1,20 +1,17 @@
 -- What was found in a client's bytes stays found, whatever follows.
-use Rattle.std.proofs.Common.{◌≡◌, ◌+◌, ◌-◌, ◌≤◌, leb, List, ◌++◌, length, take, drop, Some, None, Ok, Err, Option, Result, refl, ap, ◌∙◌, ap₂, arith}
-use Rattle.std.proofs.lemmas.List.{length-append, length-take, length-drop, take-append-le, drop-append-le}
-use Rattle.std.proofs.lemmas.Bool.{cond_both, cond-true, leb-true, le-leb}
+use Rattle.std.proofs.Common.{◌≡◌, ◌+◌, ◌-◌, ◌≤◌, List, ◌++◌, length, take, drop, Some, None, Ok, Err, Option, Result, refl, ap, ◌∙◌, arith}
+use Rattle.std.proofs.lemmas.List.{length-append, length-take, take-append-le, drop-append-le}
 use Rattle.text.specs.Bytes.{Text}
-use Rattle.message.specs.Chunked.{Run, run}
-use Rattle.message.specs.declared.chunked.Chunk.{Chunk}
-use Rattle.message.specs.declared.chunked.Outcome.{Outcome as Chunked}
+use Rattle.message.specs.Bodies.{Part, part_of}
+use Rattle.message.specs.declared.body.Due.{Due}
+use Rattle.message.specs.declared.chunked.Outcome.{Outcome as Ran}
 use Rattle.message.specs.declared.chunked.Outcome.TheVariants.{More, Whole, Wrong}
 use Rattle.message.specs.declared.fault.Flaw.{Flaw}
-use Rattle.message_laws.proofs.Cuts.{stay}
+use Rattle.message_laws.proofs.Parts.{stay}
 use Rattle.request.specs.Heads.{window, judged}
 use Rattle.request.specs.declared.head.Head.{Head}
-use Rattle.request.specs.declared.head.Due.{Due}
-use Rattle.request.specs.declared.head.Due.TheVariants.{Length, Chunks}
 use Rattle.request.specs.declared.head.Judged.{Judged}
-use Rattle.request_laws.specs.Outcome.{wants, whole, judged_whole, on_run, on_due, on_head}
+use Rattle.request_laws.specs.Outcome.{wants, whole, judged_whole, on_ran, on_part, on_due, on_head}
 use Rattle.request_laws.specs.Laws.{Stays}
 use Rattle.request_laws.proofs.HeadStays.{head_stays}
 use Rattle.request_laws.proofs.HeadSound.{sound}
@@ -26,31 +23,18 @@ window_stays names s t h =
     let room : length (take window s ++ take (window - length s) t) ≤ window = simp (length-append, length-take) (omega arith) in
     ap (judged names) (take_joined window s t) ∙ head_stays names (take window s) (take (window - length s) t) room h
 
--- of all that has come, only the head matters to what is made of the chunks
-pub same_head : (head : Head) (s t : Text) (r : Run) (o : Chunked) → take head.len t ≡ take head.len s → on_run head t r o ≡ on_run head s r o
-same_head head s t r More e = refl
-same_head head s t r Whole e = ap (λ h. whole (judged_whole head h r.body) (head.len + r.taken)) e
-same_head head s t r (Wrong w) e = refl
-
-run_stays : (head : Head) (s t : Text) (c : Chunk) → head.len ≤ length s → (on_due head s (Chunks c) ≡ wants → ⊥) → on_due head (s ++ t) (Chunks c) ≡ on_due head s (Chunks c)
-run_stays head s t c within h =
-    let r = run c (drop head.len s) in
-    let ends : r.outcome ≡ More → ⊥ = λ m. h (ap (on_run head s r) m) in
-    let same : run c (drop head.len (s ++ t)) ≡ r = ap (run c) (drop-append-le head.len s t within) ∙ stay c (drop head.len s) t ends in
-    ap (λ (x : Run). on_run head (s ++ t) x x.outcome) same ∙ same_head head s (s ++ t) r r.outcome (take-append-le head.len s t within)
+-- of all that has come, only the head matters to what is made of the body
+same_head : (head : Head) (s t : Text) (p : Part) (o : Ran) → take head.len t ≡ take head.len s → on_ran head t p o ≡ on_ran head s p o
+same_head head s t p More e = refl
+same_head head s t p Whole e = ap (λ h. whole (judged_whole head h p.body) (head.len + p.taken)) e
+same_head head s t p (Wrong w) e = refl
 
 due_stays : (head : Head) (s t : Text) (due : Due) → head.len ≤ length s → (on_due head s due ≡ wants → ⊥) → on_due head (s ++ t) due ≡ on_due head s due
-due_stays head s t (Chunks c) within = run_stays head s t c within
-due_stays head s t (Length n) within =
-    let len = head.len in
-    cond_both (leb (len + n) (length s)) (whole (judged_whole head (take len s) (take n (drop len s))) (len + n)) wants (λ x. (x ≡ wants → ⊥) → on_due head (s ++ t) (Length n) ≡ x)
-    (λ e h.
-    let le = leb-true (len + n) (length s) e in
-    let all : len + n ≤ length (s ++ t) = simp length-append (omega arith) in
-    let body : n ≤ length (drop len s) = simp length-drop (omega arith) in
-    cond-true _ _ _ (le-leb (len + n) (length (s ++ t)) all)
-    ∙ ap₂ (λ h b. whole (judged_whole head h b) (len + n)) (take-append-le len s t within) (ap (take n) (drop-append-le len s t within) ∙ take-append-le n (drop len s) t body))
-    (λ _ h. absurd (h refl))
+due_stays head s t due within h =
+    let p = part_of due (drop head.len s) in
+    let ends : p.outcome ≡ More → ⊥ = λ m. h (ap (on_ran head s p) m) in
+    let same : part_of due (drop head.len (s ++ t)) ≡ p = ap (part_of due) (drop-append-le head.len s t within) ∙ stay due (drop head.len s) t ends in
+    ap (on_part head (s ++ t)) same ∙ same_head head s (s ++ t) p p.outcome (take-append-le head.len s t within)
 
 head_finds : (s t : Text) (r : Result (Option Judged) Flaw) → ((j : Judged) → r ≡ Ok (Some j) → j.head.len ≤ length s) → (on_head s r ≡ wants → ⊥) → on_head (s ++ t) r ≡ on_head s r
 head_finds s t (Err w) in-s h = refl

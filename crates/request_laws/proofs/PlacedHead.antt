@@ -5,9 +5,9 @@ use Rattle.text.specs.Bytes.{Text, clean}
 use Rattle.text.proofs.Passing.{all_take, not_end}
 use Rattle.text_laws.proofs.Lines.{whole_line}
 use Rattle.message.specs.Sent.{Sent, ended, fields_from, fields_in}
+use Rattle.message.specs.declared.body.Due.{Due}
 use Rattle.request.specs.Canonical.{field_limit, first_line}
 use Rattle.request.specs.Heads.{window, judged_as, judged}
-use Rattle.request.specs.declared.head.Due.{Due}
 use Rattle.request.specs.declared.head.Judged.{Judged}
 use Rattle.request_laws.specs.Faults.{GoodAsk, LinesPlaced, AsFields, GoodHead}
 use Rattle.request_laws.specs.HeadLaws.{method_in, target_in}

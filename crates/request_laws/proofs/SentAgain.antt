@@ -31,7 +31,7 @@ pub sent_kept : (q : Req) → T (canonical_fields q.fields) → kept_of (sent_fi
 sent_kept q h = by_body (λ fs. kept_of fs ≡ q.fields) q (λ b. kept_again_length q.fields q.body h) (λ b. kept_again q.fields h)
 
 -- a body is carried exactly where its length is sent
-length_named : (b : Text) → T (same_no_case (length_field b).name content_length)
+pub length_named : (b : Text) → T (same_no_case (length_field b).name content_length)
 unfolding lowered same
 length_named b = tt
 

@@ -1,18 +1,19 @@
 -- Where reading stands once the bytes s have come: what the state and the memory then hold.
-use Rattle.std.proofs.Common.{◌≡◌, ℕ, ◌+◌, ◌≤◌, List, ◌++◌, length, take, drop, Some, None, Ok, sym, refl, ap, ◌∙◌, arith}
-use Rattle.std.proofs.lemmas.List.{length-take, length-take-le, take-take}
+use Rattle.std.proofs.Common.{◌≡◌, ℕ, ◌+◌, ◌-◌, ◌^◌, ◌<◌, ◌≤◌, true, List, ◌++◌, length, take, drop, Some, None, Ok, sym, refl, ap, ◌∙◌, arith}
+use Rattle.std.proofs.lemmas.List.{length-append, length-take, length-take-le, length-drop, take-take}
 use Rattle.std.proofs.lemmas.Bool.{leb-true}
 use Rattle.text.specs.Bytes.{Text}
-use Rattle.message.specs.Chunked.{run}
+use Rattle.message.specs.Bodies.{fits}
+use Rattle.message.specs.Chunked.{most_bytes}
 use Rattle.message.specs.Sent.{fields_in}
-use Rattle.message.specs.declared.chunked.Outcome.TheVariants.{More}
-use Rattle.request.specs.Canonical.{body_limit, field_limit}
+use Rattle.message.specs.declared.body.Due.{Due}
+use Rattle.message.proofs.Bodies.{start_fits}
+use Rattle.message_laws.proofs.Standing.{DueAt, Holds}
+use Rattle.request.specs.Canonical.{field_limit}
 use Rattle.request.specs.Found.{found_in}
 use Rattle.request.specs.Heads.{window, judged}
 use Rattle.request.specs.Reading.{After, memory_size}
 use Rattle.request.specs.declared.head.Head.{Head}
-use Rattle.request.specs.declared.head.Due.{Due}
-use Rattle.request.specs.declared.head.Due.TheVariants.{Length, Chunks}
 use Rattle.request.specs.declared.head.Judged.{Judged}
 use Rattle.request.specs.declared.reading.Reading.{Reading}
 use Rattle.request.specs.declared.reading.Reading.TheVariants.{InHead, InBody, Whole, Refused}
@@ -23,22 +24,9 @@ use Rattle.request_laws.proofs.OutcomeStays.{window_stays}
 use Rattle.request_laws.proofs.RequestFinished.{Lies, Over}
 
 -- a head and a body have room in the memory
-pub capacity : window + body_limit ≤ memory_size
-unfolding window memory_size
-capacity = leb-true (20480 + 262144) 282624 refl
-
-room_for : (len n w limit size : ℕ) → len ≤ w → n ≤ limit → w + limit ≤ size → len + n ≤ size
-room_for len n w limit size h k l = omega arith
-
-pub fits_both : (len n : ℕ) → len ≤ window → n ≤ body_limit → len + n ≤ memory_size
-fits_both len n h k = room_for len n window body_limit memory_size h k capacity
-
--- what has come of a body, by what was due at its start and what is due now
-abbrev pub Due-so : ℕ → Text → Text → Due → Due → Type 0
-Due-so len s body (Length n) (Length d) = (n ≡ length body + d) × (body ≡ drop len s)
-Due-so len s body (Chunks c) (Chunks d) = run c (drop len s) ≡ record { chunk = d; body = body; taken = length (drop len s); outcome = More }
-Due-so len s body (Length n) (Chunks d) = ⊥
-Due-so len s body (Chunks c) (Length d) = ⊥
+pub capacity : window + most_bytes ≤ memory_size
+unfolding window most_bytes memory_size
+capacity = leb-true (20480 + 262143) 282624 refl
 
 abbrev pub judged_so : Head → Due → Judged
 judged_so head start = record { head = head; due = start }
@@ -48,9 +36,8 @@ pub record Body (names : List Text) (s : Text) (head : Head) (filled : ℕ) (sta
   pub judges : judged names (take window s) ≡ Ok (Some (judged_so head start))
   pub size : length memory ≡ memory_size
   pub body : Text
-  pub fill : filled ≡ head.len + length body
-  pub held : take filled memory ≡ take head.len s ++ body
-  pub so : Due-so head.len s body start due
+  pub holds : Holds (take head.len s) body filled memory
+  pub at : DueAt start (drop head.len s) due body
 
 -- more is wanted
 abbrev pub Stands : List Text → Text → Reading → Text → Type 0
@@ -102,3 +89,10 @@ module _ (names : List Text) (s : Text) (head : Head) (start : Due) (judges : ju
 
   pub outcome_is : (piece : Text) → outcome names (s ++ piece) ≡ on_due head (s ++ piece) start
   outcome_is piece = ap (on_head (s ++ piece)) (still piece)
+
+  -- there is room for all of its body
+  pub has_room : (q : Text) → length (s ++ q) < 2 ^ 64 → fits start (memory_size - head.len) (length (drop head.len s ++ q)) ≡ true
+  has_room q counted =
+      let room : most_bytes ≤ memory_size - head.len = omega (arith, capacity, in_window) in
+      let sum : head.len + length (drop head.len s ++ q) ≡ length (s ++ q) = simp (length-append, length-drop) (omega (arith, in_all)) in
+      start_fits head.len start (memory_size - head.len) (length (drop head.len s ++ q)) known.due room (omega arith)

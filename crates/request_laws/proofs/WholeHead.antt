@@ -11,13 +11,13 @@ use Rattle.message.specs.Fields.{Field}
 use Rattle.message.specs.Framing.{framed}
 use Rattle.message.specs.Hops.{field_of}
 use Rattle.message.specs.Sent.{Sent, ended, fields_from, fields_in}
+use Rattle.message.specs.declared.body.Due.{Due}
 use Rattle.message.specs.declared.fault.Flaw.{Flaw}
 use Rattle.request.specs.Canonical.{carries_body, field_limit, canonical_method, begins_with_slash, first_line, version}
 use Rattle.request.specs.Heads.{window, due_of, judged_fields, judged_as, on_fields, on_first, judged}
 use Rattle.request.specs.Hosts.{server_of}
 use Rattle.request.specs.declared.first.First.{First}
 use Rattle.request.specs.declared.head.Head.{Head}
-use Rattle.request.specs.declared.head.Due.{Due}
 use Rattle.request.specs.declared.head.Judged.{Judged}
 use Rattle.request_laws.specs.Lines.{LinesSpelled, HostSpelled}
 use Rattle.request_laws.proofs.Onward.{onward_ok, onward_so}

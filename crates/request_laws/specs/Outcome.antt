@@ -1,12 +1,13 @@
 -- What is found in a client's first bytes when all of them are read at once: the meaning of a read, whatever the pieces were.
-use Rattle.std.specs.Prelude.{ℕ, ◌+◌, cond, List, map, length, take, drop, Some, None, Ok, Err, Option, Result, nat_le}
+use Rattle.std.specs.Prelude.{ℕ, ◌+◌, List, map, take, drop, Some, None, Ok, Err, Option, Result}
 use Rattle.text.specs.Bytes.{Text}
-use Rattle.message.specs.Chunked.{Run, run}
+use Rattle.message.specs.Bodies.{Part, part_of}
 use Rattle.message.specs.Faults.{flaw}
 use Rattle.message.specs.Fields.{Field}
 use Rattle.message.specs.Hops.{field_of, kept_of}
 use Rattle.message.specs.Sent.{Found, ended, more as more_fields, wrong, fields_in}
-use Rattle.message.specs.declared.chunked.Outcome.{Outcome as Chunked}
+use Rattle.message.specs.declared.body.Due.{Due}
+use Rattle.message.specs.declared.chunked.Outcome.{Outcome as Ran}
 use Rattle.message.specs.declared.chunked.Outcome.TheVariants.{More, Whole, Wrong}
 use Rattle.message.specs.declared.fault.Flaw.{Flaw}
 use Rattle.request.specs.Canonical.{Req, field_limit}
@@ -15,8 +16,6 @@ use Rattle.request.specs.Heads.{window, judged}
 use Rattle.request.specs.Reading.{target_in}
 use Rattle.request.specs.Targets.{check_target, undone}
 use Rattle.request.specs.declared.head.Head.{Head}
-use Rattle.request.specs.declared.head.Due.{Due}
-use Rattle.request.specs.declared.head.Due.TheVariants.{Length, Chunks}
 use Rattle.request.specs.declared.head.Judged.{Judged}
 
 -- More bytes are wanted; or there is a fault in the head or in the body, and it is not known where the request would end; or all of it has come: what is
@@ -43,16 +42,17 @@ on_target head h body (Ok u) = on_fields head h body (fields_in field_limit h he
 abbrev pub judged_whole : Head → Text → Text → Finding
 judged_whole head h body = on_target head h body (check_target (target_in head h))
 
-abbrev pub on_run : Head → Text → Run → Chunked → Outcome
-on_run head s r More = wants
-on_run head s r (Wrong w) = broken w
-on_run head s r Whole = whole (judged_whole head (take head.len s) r.body) (head.len + r.taken)
+abbrev pub on_ran : Head → Text → Part → Ran → Outcome
+on_ran head s p More = wants
+on_ran head s p (Wrong w) = broken w
+on_ran head s p Whole = whole (judged_whole head (take head.len s) p.body) (head.len + p.taken)
 
--- the body behind a head that is let pass; s: all bytes that have come
+-- what has come of a body behind a head that is let pass; s: all bytes that have come
+abbrev pub on_part : Head → Text → Part → Outcome
+on_part head s p = on_ran head s p p.outcome
+
 abbrev pub on_due : Head → Text → Due → Outcome
-on_due head s (Length n) =
-    cond (nat_le (head.len + n) (length s)) (whole (judged_whole head (take head.len s) (take n (drop head.len s))) (head.len + n)) wants
-on_due head s (Chunks c) = on_run head s (run c (drop head.len s)) (run c (drop head.len s)).outcome
+on_due head s due = on_part head s (part_of due (drop head.len s))
 
 abbrev pub on_head : Text → Result (Option Judged) Flaw → Outcome
 on_head s (Err w) = broken w

@@ -1,15 +1,15 @@
-use Rattle.std.proofs.Common.{◌≡◌, ℕ, ◌+◌, ◌-◌, ◌≤◌, min, true, eqb, List, length, take, Some, None, Ok, Err, Option, Result, sym, refl, ap, ◌∙◌, subst, ⊎_elim, le_trans, arith, lit≤}
+use Rattle.std.proofs.Common.{◌≡◌, ℕ, ◌+◌, ◌-◌, ◌^◌, ◌<◌, ◌≤◌, min, true, eqb, leb, List, length, take, Some, None, Ok, Err, Option, Result, sym, refl, ap, ◌∙◌, subst, ⊎_elim, le_trans, arith, lit≤, lit<}
 use native.Mathlib.Nat.{sub-zero}
 use Rattle.std.proofs.lemmas.List.{length-take, take_all}
 use Rattle.std.proofs.lemmas.Bool.{cases_lt, le-leb, eq-eqb, and_from}
 use Rattle.text.specs.Bytes.{Text}
+use Rattle.message.specs.Bodies.{fits}
+use Rattle.message.specs.Chunked.{most_bytes}
 use Rattle.message.specs.declared.fault.Flaw.{Flaw}
-use Rattle.request.specs.Canonical.{body_limit}
-use Rattle.request.specs.Heads.{window, judged, Sound, SoundDue}
+use Rattle.message.proofs.Bodies.{start_fits}
+use Rattle.request.specs.Heads.{window, judged, Sound}
 use Rattle.request.specs.Hosts.{names_of}
 use Rattle.request.specs.Reading.{After, memory_size, placed_at, in_body, on_judged, head_step, fits_head, fits_due, fits_state, fits_in, fed_by}
-use Rattle.request.specs.declared.head.Due.{Due}
-use Rattle.request.specs.declared.head.Due.TheVariants.{Length, Chunks}
 use Rattle.request.specs.declared.head.Judged.{Judged}
 use Rattle.request.specs.declared.reading.Reading.{Reading}
 use Rattle.request.specs.declared.reading.Reading.TheVariants.{InHead, Refused}
@@ -38,9 +38,13 @@ window_less : window ≤ memory_size
 unfolding window memory_size
 window_less = lit≤ tt
 
-head_and_body : window + body_limit ≤ memory_size
-unfolding window memory_size
+head_and_body : window + most_bytes ≤ memory_size
+unfolding window most_bytes memory_size
 head_and_body = lit≤ tt
+
+window_counted : window < 2 ^ 64
+unfolding window
+window_counted = lit< tt
 
 -- what is stored, and what is said of it
 module _ (names : List Text) (filled n : ℕ) (memory piece then : Text) (room : filled ≤ window) (e : n ≡ min (length piece) (window - filled)) (is : then ≡ placed_at filled (take (n - 0) piece) memory) where
@@ -55,15 +59,15 @@ module _ (names : List Text) (filled n : ℕ) (memory piece then : Text) (room :
 fits_state_so : (size : ℕ) (r : Reading) → size ≡ memory_size → fits_state size r ≡ true → fits_in size r ≡ true
 fits_state_so size r e h = and_from (eqb size memory_size) (fits_state size r) (eq-eqb size memory_size e) h
 
-due_fits : (size len : ℕ) (d : Due) → SoundDue d → len + body_limit ≤ size → fits_due size len d ≡ true
-due_fits size len (Length n) h k = le-leb (len + n) size (omega arith)
-due_fits size len (Chunks c) h k = le-leb len size (omega arith)
-
 judged_fits : (size n : ℕ) (j : Judged) → size ≡ memory_size → n ≤ window → Sound n (Ok (Some j)) → fits_in size (in_body j.head j.head.len j.due) ≡ true
 judged_fits size n j e h s =
-    let all : j.head.len + body_limit ≤ size = omega (arith, head_and_body, s.2) in
-    let here : j.head.method + 1 + j.head.target ≤ size = omega (arith, s.0, s.1, s.2, window_less) in
-    fits_state_so size (in_body j.head j.head.len j.due) e (and_from (fits_head size j.head) (fits_due size j.head.len j.due) (le-leb _ size here) (due_fits size j.head.len j.due s.3 all))
+    let len = j.head.len in
+    let behind : j.head.len ≤ size = omega (arith, s.2, window_less) in
+    let here : j.head.method + 1 + j.head.target ≤ size = omega (arith, s.0, s.1) in
+    let most : most_bytes ≤ size - j.head.len = omega (arith, head_and_body, s.2) in
+    let counted : j.head.len + 0 < 2 ^ 64 = omega (arith, window_counted, s.2) in
+    let due : fits_due size len j.due ≡ true = and_from (leb len size) (fits j.due (size - len) 0) (le-leb len size behind) (start_fits len j.due (size - len) 0 s.3 most counted) in
+    fits_state_so size (in_body j.head len j.due) e (and_from (fits_head size j.head) (fits_due size len j.due) (le-leb _ size here) due)
 
 -- how much of a piece belongs to a head that ends in it
 sub_within : (len filled n seen long : ℕ) → len ≤ seen → seen ≤ filled + n → n ≤ long → len - filled ≤ long

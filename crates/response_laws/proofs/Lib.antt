@@ -1,0 +1,11 @@
+pub mod StatusLines
+pub mod Dues
+pub mod WholeHead
+pub mod Parts
+pub mod Responses
+pub mod Again
+pub mod Front
+pub mod Steadily
+pub mod BodyHeard
+pub mod HeadHeard
+pub mod Fed

@@ -1,0 +1,6 @@
+pub mod Ear
+pub mod Grammar
+pub mod StatusLaws
+pub mod Laws
+pub mod Held
+pub mod Feeding
