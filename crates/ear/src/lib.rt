@@ -9,6 +9,9 @@ use message::sent_field::blank_fields;
 use request::canonical::Full;
 use response::reading::{Fed, Reading};
 
+#[cfg(test)]
+mod tests;
+
 // How far the response in hand has been read. A type of its own, since the laws that a reader must keep are proved above the reader.
 #[derive(Clone, Copy)]
 pub struct Ear(Reading);

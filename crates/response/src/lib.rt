@@ -8,3 +8,5 @@ pub mod head;
 pub mod reading;
 pub mod refusal;
 pub mod status;
+#[cfg(test)]
+mod tests;
