@@ -70,25 +70,25 @@ value_trimmed : (v : Text) → T (canonical_value v) → trimmed (32 ∷ v) ≡ 
 unfolding all
 value_trimmed v h = (trims (32 ∷ v) v).1 record { front = 32 ∷ []; back = []; blanks = (tt, tt); bare = value_bare v h; joined = ap (λ u. 32 ∷ u) (sym (append-nil v)) }
 
-field_read : (f : Field) → Plain f → field_of (cut_at 58 (line_of f)) ≡ Some f
+pub field_read : (f : Field) → Plain f → field_of (cut_at 58 (line_of f)) ≡ Some f
 unfolding all
 field_read f p =
     ap field_of (cut_at_so 58 lower_name_byte refl f.name (32 ∷ f.value) p.name) ∙
     rw (is_true (nonempty f.name) p.some, is_true (all name_byte f.name) (all_weaker lower_name_byte name_byte name_byte_so f.name p.name), is_true (all value_byte f.value) (value_bytes f.value p.value), lowered_name f.name p.name, value_trimmed f.value p.value)
 
-fields_read : (fs : List Field) → AllByRecursion Plain fs → read_fields (field_lines fs) ≡ Many fs
+pub fields_read : (fs : List Field) → AllByRecursion Plain fs → read_fields (field_lines fs) ≡ Many fs
 unfolding read_fields field_lines
 fields_read [] h = refl
 fields_read (f ∷ fs) h = rw (field_read f h.0, fields_read fs h.1)
 
 -- canonical fields have no length and no encoding
-not_framing : (n : Text) → T (not (among n dropped)) → (same n content_length ≡ false) × (same n transfer_encoding ≡ false)
+pub not_framing : (n : Text) → T (not (among n dropped)) → (same n content_length ≡ false) × (same n transfer_encoding ≡ false)
 unfolding among
 not_framing n h =
     let e = or_parts (same n content_length) (among n (drop 1 dropped)) (is_false (among n dropped) h) in
     (e.0, (or_parts (same n transfer_encoding) (among n (drop 2 dropped)) e.1).0)
 
-values_past : (n : Text) → ((m : Text) → T (not (among m dropped)) → same m n ≡ false) → (fs gs : List Field) → T (canonical_fields fs) → values_of n (fs ++ gs) ≡ values_of n gs
+pub values_past : (n : Text) → ((m : Text) → T (not (among m dropped)) → same m n ≡ false) → (fs gs : List Field) → T (canonical_fields fs) → values_of n (fs ++ gs) ≡ values_of n gs
 unfolding canonical_fields values_of
 values_past n e [] gs h = refl
 values_past n e (f ∷ fs) gs h =

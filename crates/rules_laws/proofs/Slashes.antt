@@ -13,15 +13,15 @@ use Rattle.rules_laws.specs.Views.{good_start, good_rules}
 use Rattle.rules_laws.specs.Laws.{after_slashes, PartsIn, RuleParts, GoodRules}
 
 -- no slash
-abbrev not_slash : ℕ → Bool
+abbrev pub not_slash : ℕ → Bool
 not_slash c = not (eqb c 47)
 
 -- no question mark
-abbrev not_mark : ℕ → Bool
+abbrev pub not_mark : ℕ → Bool
 not_mark c = not (eqb c 63)
 
 -- parts that are not empty and have no slash
-abbrev Apart : List Text → Type 0
+abbrev pub Apart : List Text → Type 0
 Apart ts = AllByRecursion (λ t. T (nonempty t) × T (all not_slash t)) ts
 
 -- one part, and a part in front of others
@@ -67,10 +67,10 @@ rules_good (r ∷ rs) h =
     and_i (good_start (view_rule r).start) (good_rules (view_rules rs)) (subst (λ ts. T (good_start ts)) (sym (rule_parts r written)) written.good) (rules_good rs h.1)
 
 -- the bytes of a part: plain ones, and % with two digits that are plain; and those of a path
-abbrev part_byte : ℕ → Bool
+abbrev pub part_byte : ℕ → Bool
 part_byte c = plain_byte c || eqb c 37
 
-abbrev path_byte : ℕ → Bool
+abbrev pub path_byte : ℕ → Bool
 path_byte c = part_byte c || eqb c 47
 
 plain_part : (c : ℕ) → T (plain_byte c) → T (part_byte c)
@@ -85,7 +85,7 @@ digit_part c h = so (capital_digit c) (part_byte c) (λ e. grind (arith, nat_tes
 part_path : (c : ℕ) → T (part_byte c) → T (path_byte c)
 part_path c h = so (part_byte c) (path_byte c) (λ e. grind (arith, nat_tests)) h
 
-part_bytes : (p : List Piece) → T (good_pieces p) → T (all part_byte (part_text p))
+pub part_bytes : (p : List Piece) → T (good_pieces p) → T (all part_byte (part_text p))
 unfolding good_pieces part_text all
 part_bytes [] h = tt
 part_bytes (Plain c ∷ ps) h = and_i (part_byte c) (all part_byte (part_text ps)) (plain_part c (and_l (plain_byte c) (good_pieces ps) h)) (part_bytes ps (and_r (plain_byte c) (good_pieces ps) h))
@@ -119,14 +119,14 @@ parts_after [] = refl
 parts_after (p ∷ ps) = ap (λ t. (47 ∷ part_text p) ++ t) (parts_after ps)
 
 -- and its path, which has no question mark
-parts_bytes : (ps : List (List Piece)) → T (good_parts ps) → T (all path_byte (parts_text ps))
+pub parts_bytes : (ps : List (List Piece)) → T (good_parts ps) → T (all path_byte (parts_text ps))
 unfolding good_parts parts_text all
 parts_bytes [] h = tt
 parts_bytes (p ∷ ps) h =
     let g = good p (and_l (good_part p) (good_parts ps) h) in
     all_append path_byte (part_text p) (parts_text ps) (all_weaker part_byte path_byte part_path (part_text p) g.bytes) (parts_bytes ps (and_r (good_part p) (good_parts ps) h))
 
-root_bytes : (t : Text) → T (all path_byte t) → T (all path_byte (or_root t))
+pub root_bytes : (t : Text) → T (all path_byte t) → T (all path_byte (or_root t))
 unfolding or_root all
 root_bytes [] h = tt
 root_bytes (c ∷ t) h = h
@@ -140,7 +140,7 @@ front (c ∷ f) r h e =
     let next : 1 + n ≡ suc n = omega arith in
     rw (is_true (not_mark c) (and_l (not_mark c) (all not_mark f) h), next) (ap (λ t. c ∷ t) (front f r (and_r (not_mark c) (all not_mark f) h) e))
 
-path_front : (f q : Text) → T (all not_mark f) → take (before 63 (with_query f q)) (with_query f q) ≡ f
+pub path_front : (f q : Text) → T (all not_mark f) → take (before 63 (with_query f q)) (with_query f q) ≡ f
 unfolding with_query
 path_front f [] h = subst (λ t. take (before 63 t) t ≡ f) (append-nil f) (front f [] h refl)
 path_front f (c ∷ q) h = front f (63 ∷ c ∷ q) h refl

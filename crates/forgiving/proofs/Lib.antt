@@ -1,0 +1,12 @@
+pub mod Lines
+pub mod Heads
+pub mod Words
+pub mod Fields
+pub mod Names
+pub mod Lengths
+pub mod Bodies
+pub mod Sizes
+pub mod Reading
+pub mod Codes
+pub mod Seeing
+pub mod Telling
