@@ -8,8 +8,9 @@ use Rattle.text.specs.Trims.{trimmed_back}
 use Rattle.text.specs.Numerals.{number_of}
 use Rattle.text.specs.declared.numeral.Base.TheVariants.{Decimal}
 use Rattle.message.specs.Fields.{Field}
+use Rattle.reader.specs.Reader.{Got, body_of}
 use Rattle.reader.specs.Strict.{field_of}
-use Rattle.forgiving.specs.Readers.{common_end, lf_end, cr_end, hyphened, goes_on, octal, one_of, last_of, added}
+use Rattle.forgiving.specs.Readers.{common_end, lf_end, cr_end, hyphened, goes_on, octal, one_of, last_of, added, reader_with}
 use Rattle.forgiving.specs.Views.{cut_part}
 use Rattle.forgiving.specs.declared.habit.Habit.{Habit}
 use Rattle.forgiving.specs.declared.habit.Habit.TheVariants.{LoneLf, LoneCr, SpaceBeforeColon, LowLine, GoesOn, Octal, FirstLength, LastLength, AddedLengths, GetBody, NoChunks, CutParts}
@@ -66,6 +67,10 @@ abbrev pub size_with : Habit → Text → List Text → List Text → Option ℕ
 size_with GetBody m es vs = cond (same m (codes "GET")) (Some 0) (unencoded es (length_by GetBody vs))
 size_with NoChunks m es vs = length_by NoChunks vs
 size_with h m es vs = unencoded es (length_by h vs)
+
+-- what a reader finds behind a head of this method, target and fields
+abbrev pub body_by : Habit → Text → Text → List Field → Text → Got
+body_by h m t fs s = body_of (reader_with h) m t fs s ((reader_with h).size m fs)
 
 -- what is seen of a part of a path
 abbrev pub part_by : Habit → Text → Text

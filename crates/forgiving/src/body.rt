@@ -1,9 +1,8 @@
 // The body of a request, by a length or by chunks.
 ghost use Rattle.std.specs.Prelude.{◌≡◌, IfOk};
 ghost use Rattle.text.specs.Bytes.{Text};
-ghost use Rattle.reader.specs.Reader.{body_of};
 ghost use Rattle.forgiving.specs.Common.{by_chunks};
-ghost use Rattle.forgiving.specs.Readers.{reader_with};
+ghost use Rattle.forgiving.specs.Parts.{body_by};
 ghost use Rattle.forgiving.specs.Held.{view_fields, with_body, TakesBody};
 
 use crate::field::Field;
@@ -22,7 +21,7 @@ fn read_chunks(heap: Global, bytes: &[u8]) -> Result<Got<'_, Vec<u8>>, AllocErro
 {
     let mut memory = vec![in heap; 0; MOST]?;
     let Ok(fed) = Chunk::new(0).feed(&mut memory, bytes) else {
-        return Ok(Got::Bad);
+        unreachable!()
     };
     match fed.outcome {
         Outcome::More => Ok(Got::More),
@@ -45,7 +44,7 @@ impl Habit {
         fields: &[Field],
         bytes: &'a [u8],
     ) -> Result<Got<'a, Vec<u8>>, AllocError>
-        ensures { IfOk result (λ g. (t : Text) → with_body method.now t (view_fields fields.now) g ≡ body_of (reader_with self) method.now t (view_fields fields.now) bytes.now ((reader_with self).size method.now (view_fields fields.now))) }
+        ensures { IfOk result (λ g. (t : Text) → with_body method.now t (view_fields fields.now) g ≡ body_by self method.now t (view_fields fields.now) bytes.now) }
     {
         let encodings = values_of(heap, fields, b"transfer-encoding")?;
         let lengths = values_of(heap, fields, b"content-length")?;

@@ -5,12 +5,12 @@ use Rattle.message.specs.declared.chunked.Fed.{Fed}
 use Rattle.forgiving.proofs.Bodies.{taken_within, body_within, fed_is, never, body_is, on_more, on_wrong, on_whole}
 use Rattle.forgiving.proofs.body.read_chunks.Goals as goal
 
-pub returns-in_default : goal.returns-in_default
-returns-in_default c =
+pub unreachable-requires : goal.unreachable-requires
+unreachable-requires c =
     let s = c.args.bytes.now in
     let zeros = c.deref_mut.result.now in
     let small : length c.args.bytes.now < 2 ^ 64 = omega arith in
-    λ m t fs. absurd (never s zeros (c.deref_mut.ensures.len ∙ c.in_ok-memory.ensures.len) small c.in_default.field-0 (c.in_default.ensures.told ∙ ap (λ k. fed_by k (length zeros) s) c.new.ensures))
+    never s zeros (c.deref_mut.ensures.len ∙ c.in_ok-memory.ensures.len) small c.in_default.field-0 (c.in_default.ensures.told ∙ ap (λ k. fed_by k (length zeros) s) c.new.ensures)
 
 pub returns-in-More : goal.returns-in-More
 returns-in-More c =
