@@ -31,6 +31,7 @@ pub mod Stands
 pub mod BodyFed
 pub mod HeadFed
 pub mod Feeding
+pub mod OnePiece
 pub mod TokenFaults
 pub mod PartFaults
 pub mod TargetFaults

@@ -8,3 +8,4 @@ pub mod Laws
 pub mod Faults
 pub mod FaultLaws
 pub mod Once
+pub mod Pieces

@@ -6,6 +6,7 @@ ghost use Rattle.request_laws.specs.Laws.{CutFree, Stays, ReadIffSpelled, Canoni
 pub mod fault;
 pub mod head;
 pub mod once;
+pub mod piece;
 pub mod target;
 
 // Feeding the bytes in any pieces finds what reading them all at once finds.
