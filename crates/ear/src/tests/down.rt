@@ -1,19 +1,18 @@
 // What brings a connection down, who is told, and what changes nothing.
 use super::play::{
-    Who, all_told, ask, ask_by, fall, get, hand, hand_early, is_down, nobody_waits, request, rest,
-    tell,
+    Who, all_told, ask, ask_by, fall, get, hand, hand_early, is_down, memory, nobody_waits,
+    request, rest, tell,
 };
 use crate::Ear;
 use connection::hearing::{Heard, Hearing};
 use connection::state::{Idle, Unsent};
-use request::reading::MEMORY;
 use std::test::Fail;
 
 // A connection on which nothing was asked goes down with the first byte, and stays down.
 #[test]
 fn unasked_bytes(rt: HostRuntime) -> Result<(), Fail> {
     let said = b"HTTP/1.1 200 OK\r\nContent-Length: 0\r\n\r\n";
-    let mut memory = vec![in rt.alloc(); 0; MEMORY]?;
+    let mut memory = memory(&rt)?;
     let connection: Idle<Ear> = Idle::new();
     let connection = rest(connection.hear(b""), &mut memory)?;
     let connection = all_told(&rt, fall(connection.hear(said), &mut memory)?)?;
@@ -26,7 +25,7 @@ fn unasked_bytes(rt: HostRuntime) -> Result<(), Fail> {
 #[test]
 fn empty_pieces(rt: HostRuntime) -> Result<(), Fail> {
     let copy = b"HTTP/1.1 200 OK\r\ncontent-length: 1\r\n\r\nx";
-    let mut memory = vec![in rt.alloc(); 0; MEMORY]?;
+    let mut memory = memory(&rt)?;
     let mut connection = Idle::new();
     ask(&rt, &mut connection, 1)?;
     for piece in [
@@ -47,7 +46,7 @@ fn empty_pieces(rt: HostRuntime) -> Result<(), Fail> {
 // A CR is stray once a byte comes that is no LF.
 #[test]
 fn unreadable_bytes(rt: HostRuntime) -> Result<(), Fail> {
-    let mut memory = vec![in rt.alloc(); 0; MEMORY]?;
+    let mut memory = memory(&rt)?;
     let mut connection = Idle::new();
     ask(&rt, &mut connection, 7)?;
     ask_by(&rt, &mut connection, 8, b"TRACE")?;
@@ -71,7 +70,7 @@ fn response_then_stray(rt: HostRuntime) -> Result<(), Fail> {
     let said =
         b"HTTP/1.1 200 OK\r\nContent-Length: 1\r\n\r\nx\nHTTP/1.1 200 OK\r\nContent-Length: 0\r\n\r\n";
     let copy = b"HTTP/1.1 200 OK\r\ncontent-length: 1\r\n\r\nx";
-    let mut memory = vec![in rt.alloc(); 0; MEMORY]?;
+    let mut memory = memory(&rt)?;
     let mut connection = Idle::new();
     ask(&rt, &mut connection, 1)?;
     ask(&rt, &mut connection, 2)?;
@@ -85,7 +84,7 @@ fn response_then_stray(rt: HostRuntime) -> Result<(), Fail> {
 #[test]
 fn one_too_many(rt: HostRuntime) -> Result<(), Fail> {
     let said = b"HTTP/1.1 204 A\r\n\r\nHTTP/1.1 204 B\r\n\r\n";
-    let mut memory = vec![in rt.alloc(); 0; MEMORY]?;
+    let mut memory = memory(&rt)?;
     let mut connection = Idle::new();
     ask(&rt, &mut connection, 1)?;
     let busy = hand(
@@ -103,7 +102,7 @@ fn one_too_many(rt: HostRuntime) -> Result<(), Fail> {
 #[test]
 fn early_then_stray(rt: HostRuntime) -> Result<(), Fail> {
     let said = b"HTTP/1.1 100 A\r\n\r\nHTTP/1.0 200 OK\r\n";
-    let mut memory = vec![in rt.alloc(); 0; MEMORY]?;
+    let mut memory = memory(&rt)?;
     let mut connection = Idle::new();
     ask(&rt, &mut connection, 1)?;
     let busy = connection.hear(said);
@@ -117,7 +116,7 @@ fn early_then_stray(rt: HostRuntime) -> Result<(), Fail> {
 #[test]
 fn wrong_memory(rt: HostRuntime) -> Result<(), Fail> {
     let said = b"HTTP/1.1 204 A\r\n\r\n";
-    let mut memory = vec![in rt.alloc(); 0; MEMORY]?;
+    let mut memory = memory(&rt)?;
     let mut long = vec![in rt.alloc(); b'.'; 282625]?;
     let mut small = [b'.'; 20];
     let mut connection = Idle::new();
@@ -138,7 +137,7 @@ fn wrong_memory(rt: HostRuntime) -> Result<(), Fail> {
 #[test]
 fn short_output(rt: HostRuntime) -> Result<(), Fail> {
     let said = b"HTTP/1.1 204 A\r\n\r\n";
-    let mut memory = vec![in rt.alloc(); 0; MEMORY]?;
+    let mut memory = memory(&rt)?;
     let mut connection = Idle::new();
     let mut out = [b'.'; 17];
     let Err(Unsent::Full(full)) = connection.ask(1, &request(b"GET"), &mut out) else {
@@ -153,7 +152,7 @@ fn short_output(rt: HostRuntime) -> Result<(), Fail> {
 
 #[test]
 fn long_method(rt: HostRuntime) -> Result<(), Fail> {
-    let mut memory = vec![in rt.alloc(); 0; MEMORY]?;
+    let mut memory = memory(&rt)?;
     let mut connection: Idle<Ear> = Idle::new();
     let mut out = [b'.'; 40];
     let Err(Unsent::Method) = connection.ask(1, &request(b"ABCDEFGHIJKLMNOPQ"), &mut out) else {

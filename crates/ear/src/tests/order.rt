@@ -1,10 +1,7 @@
 // Who is given what, and in which order.
-use super::play::{
-    Who, all_told, ask, ask_by, fall, get, hand, hand_early, is_busy, nobody_waits, rest, tell,
-};
+use super::play::{Who, ask, ask_by, get, hand, hand_early, is_busy, memory, nobody_waits, rest};
 use crate::Ear;
 use connection::state::{Busy, Idle};
-use request::reading::MEMORY;
 use std::process::Abort;
 use std::test::Fail;
 
@@ -13,11 +10,16 @@ const EMPTY: &[u8] = b"HTTP/1.1 200 OK\r\ncontent-length: 0\r\n\r\n";
 
 #[test]
 fn two_clients(rt: HostRuntime) -> Result<(), Fail> {
-    let said =
-        b"HTTP/1.1 200 OK\r\nContent-Length: 2\r\n\r\nhiHTTP/1.1 404 Not Found\r\nTransfer-Encoding: chunked\r\n\r\n3\r\nabc\r\n0\r\n\r\n";
+    let said = b"HTTP/1.1 200 OK\r\n\
+        Content-Length: 2\r\n\r\n\
+        hi\
+        HTTP/1.1 404 Not Found\r\n\
+        Transfer-Encoding: chunked\r\n\r\n\
+        3\r\nabc\r\n\
+        0\r\n\r\n";
     let first = b"HTTP/1.1 200 OK\r\ncontent-length: 2\r\n\r\nhi";
     let second = b"HTTP/1.1 404 Not Found\r\ncontent-length: 3\r\n\r\nabc";
-    let mut memory = vec![in rt.alloc(); 0; MEMORY]?;
+    let mut memory = memory(&rt)?;
     let mut connection = Idle::new();
     ask(&rt, &mut connection, 1)?;
     ask(&rt, &mut connection, 2)?;
@@ -30,7 +32,7 @@ fn two_clients(rt: HostRuntime) -> Result<(), Fail> {
 fn early_then_last(rt: HostRuntime) -> Result<(), Fail> {
     let said = b"HTTP/1.1 100 Continue\r\n\r\nHTTP/1.1 200 OK\r\nContent-Length: 0\r\n\r\n";
     let early = b"HTTP/1.1 100 Continue\r\n\r\n";
-    let mut memory = vec![in rt.alloc(); 0; MEMORY]?;
+    let mut memory = memory(&rt)?;
     let mut connection = Idle::new();
     ask(&rt, &mut connection, 5)?;
     let busy = hand_early(&rt, connection.hear(said), &mut memory, get(5, 0), early)?;
@@ -44,7 +46,7 @@ fn early_and_101(rt: HostRuntime) -> Result<(), Fail> {
     let early = b"HTTP/1.1 199 X\r\n\r\n";
     let switching = b"HTTP/1.1 101 Switching\r\nUpgrade: x\r\nConnection: upgrade\r\n\r\n";
     let last = b"HTTP/1.1 204 \r\n\r\n";
-    let mut memory = vec![in rt.alloc(); 0; MEMORY]?;
+    let mut memory = memory(&rt)?;
     let mut connection = Idle::new();
     ask(&rt, &mut connection, 5)?;
     ask(&rt, &mut connection, 6)?;
@@ -60,10 +62,16 @@ fn early_and_101(rt: HostRuntime) -> Result<(), Fail> {
 // None of the early ones has a body, whatever its fields say.
 #[test]
 fn several_early(rt: HostRuntime) -> Result<(), Fail> {
-    let said =
-        b"HTTP/1.1 100 \r\n\r\nHTTP/1.1 103 Hints\r\nLink: </a>\r\nContent-Length: 5\r\n\r\nHTTP/1.1 199 X\r\nTransfer-Encoding: chunked\r\n\r\nHTTP/1.1 200 OK\r\nContent-Length: 0\r\n\r\n";
+    let said = b"HTTP/1.1 100 \r\n\r\n\
+        HTTP/1.1 103 Hints\r\n\
+        Link: </a>\r\n\
+        Content-Length: 5\r\n\r\n\
+        HTTP/1.1 199 X\r\n\
+        Transfer-Encoding: chunked\r\n\r\n\
+        HTTP/1.1 200 OK\r\n\
+        Content-Length: 0\r\n\r\n";
     let hints = b"HTTP/1.1 103 Hints\r\nlink: </a>\r\n\r\n";
-    let mut memory = vec![in rt.alloc(); 0; MEMORY]?;
+    let mut memory = memory(&rt)?;
     let mut connection = Idle::new();
     ask(&rt, &mut connection, 5)?;
     let busy = connection.hear(said);
@@ -80,7 +88,7 @@ fn byte_by_byte(rt: HostRuntime) -> Result<(), Fail> {
     let said = b"HTTP/1.1 100 Continue\r\n\r\nHTTP/1.1 200 OK\r\nContent-Length: 2\r\n\r\nhi";
     let early = b"HTTP/1.1 100 Continue\r\n\r\n";
     let copy = b"HTTP/1.1 200 OK\r\ncontent-length: 2\r\n\r\nhi";
-    let mut memory = vec![in rt.alloc(); 0; MEMORY]?;
+    let mut memory = memory(&rt)?;
     let mut connection = Idle::new();
     ask(&rt, &mut connection, 5)?;
     for (i, byte) in said.iter().enumerate() {
@@ -103,7 +111,7 @@ fn head_then_get(rt: HostRuntime) -> Result<(), Fail> {
     let said =
         b"HTTP/1.1 200 OK\r\nContent-Length: 5\r\n\r\nHTTP/1.1 200 A\r\nContent-Length: 1\r\n\r\nxHTTP/1.1 200 OK\r\n\r\n";
     let copy = b"HTTP/1.1 200 A\r\ncontent-length: 1\r\n\r\nx";
-    let mut memory = vec![in rt.alloc(); 0; MEMORY]?;
+    let mut memory = memory(&rt)?;
     let mut connection = Idle::new();
     ask_by(&rt, &mut connection, 1, b"HEAD")?;
     ask(&rt, &mut connection, 2)?;
@@ -165,7 +173,7 @@ fn responses(rt: &impl AllocGlobal, count: usize) -> Result<Vec<u8>, Fail> {
 // that wait are given theirs.
 #[test]
 fn full_queue(rt: HostRuntime) -> Result<(), Fail> {
-    let mut memory = vec![in rt.alloc(); 0; MEMORY]?;
+    let mut memory = memory(&rt)?;
     let said = responses(&rt, 64)?;
     let fewer = responses(&rt, 40)?;
     let mut connection = Idle::new();

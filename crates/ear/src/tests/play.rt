@@ -4,6 +4,7 @@ use connection::hearing::Hearing;
 use connection::owners::Owner;
 use connection::state::{Busy, Falling, Idle, Next, Telling, Unsent};
 use message::fault::Fault;
+use request::reading::MEMORY;
 use request::sent::SentRequest;
 use std::process::Abort;
 use std::test::Fail;
@@ -89,7 +90,7 @@ fn is_owner(rt: &impl Abort, owner: Owner, who: Who<'_>) {
 }
 
 // The response goes to its client as this copy, to the front of an output with room for it; one a byte too short stays as it was.
-pub fn is_copy(
+fn is_copy(
     rt: &(impl Abort + AllocGlobal),
     response: Ear,
     memory: &[u8],
@@ -189,39 +190,56 @@ pub fn nobody_waits(rt: &impl Abort, busy: Busy<'_, Ear>, memory: &mut [u8]) -> 
     Ok(())
 }
 
+// Memory as it is lent for reading.
+pub fn memory(rt: &impl AllocGlobal) -> Result<Vec<u8>, Fail> {
+    Ok(vec![in rt.alloc(); 0; MEMORY]?)
+}
+
 // One request of this method waits. The server says a response, in one piece and byte by byte: its client gets this copy when the last byte is there, and
 // then nobody waits.
 pub fn gives(
     rt: &(impl Abort + AllocGlobal),
-    memory: &mut [u8],
     method: &[u8],
     said: &[u8],
     copy: &[u8],
 ) -> Result<(), Fail> {
+    let mut memory = memory(rt)?;
     let who = Who {
         client: 3,
         number: 0,
         method,
     };
-    let mut connection = Idle::new();
-    ask_by(rt, &mut connection, 3, method)?;
-    let busy = hand(rt, connection.hear(said), memory, who, copy)?;
-    nobody_waits(rt, busy, memory)?;
-    let mut connection = Idle::new();
-    ask_by(rt, &mut connection, 3, method)?;
-    let (connection, last) = all_but_last(connection, memory, said)?;
+    let connection = one_asks(rt, who)?;
+    let busy = hand(rt, connection.hear(said), &mut memory, who, copy)?;
+    nobody_waits(rt, busy, &mut memory)?;
+    let (connection, last) = all_but_last(one_asks(rt, who)?, &mut memory, said)?;
     let piece = [last];
-    let busy = hand(rt, connection.hear(&piece), memory, who, copy)?;
-    nobody_waits(rt, busy, memory)
+    let busy = hand(rt, connection.hear(&piece), &mut memory, who, copy)?;
+    nobody_waits(rt, busy, &mut memory)
 }
 
 // Two requests of this method wait. The server says what is no response, which shows at its last byte, in one piece and byte by byte: both clients are told,
 // and the connection stays down.
-pub fn breaks(rt: &impl Abort, memory: &mut [u8], method: &[u8], said: &[u8]) -> Result<(), Fail> {
+pub fn breaks(rt: &(impl Abort + AllocGlobal), method: &[u8], said: &[u8]) -> Result<(), Fail> {
+    let mut memory = memory(rt)?;
     let connection = two_ask(rt, method)?;
-    two_told(rt, fall(connection.hear(said), memory)?, method)?;
-    let (connection, last) = all_but_last(two_ask(rt, method)?, memory, said)?;
-    two_told(rt, fall(connection.hear(&[last]), memory)?, method)
+    two_told(rt, fall(connection.hear(said), &mut memory)?, method)?;
+    let (connection, last) = all_but_last(two_ask(rt, method)?, &mut memory, said)?;
+    two_told(rt, fall(connection.hear(&[last]), &mut memory)?, method)
+}
+
+// The same of each of these, said behind a front, to GET.
+pub fn breaks_each(
+    rt: &(impl Abort + AllocGlobal),
+    front: &[u8],
+    backs: &[&[u8]],
+) -> Result<(), Fail> {
+    for back in backs {
+        let mut said = Vec::from_slice(rt.alloc(), front)?;
+        said.extend_from_slice(back)?;
+        breaks(rt, b"GET", &said)?;
+    }
+    Ok(())
 }
 
 // All bytes but the last are said, one by one, and more is wanted after each.
@@ -240,6 +258,12 @@ fn all_but_last(
     Ok((connection, *last))
 }
 
+fn one_asks(rt: &impl Abort, who: Who<'_>) -> Result<Idle<Ear>, Fail> {
+    let mut connection = Idle::new();
+    ask_by(rt, &mut connection, who.client, who.method)?;
+    Ok(connection)
+}
+
 pub fn two_ask(rt: &impl Abort, method: &[u8]) -> Result<Idle<Ear>, Fail> {
     let mut connection = Idle::new();
     ask_by(rt, &mut connection, 3, method)?;
@@ -248,28 +272,17 @@ pub fn two_ask(rt: &impl Abort, method: &[u8]) -> Result<Idle<Ear>, Fail> {
 }
 
 pub fn two_told(rt: &impl Abort, falling: Falling<Ear>, method: &[u8]) -> Result<(), Fail> {
-    let (client, number) = (3, 0);
-    let falling = tell(
-        rt,
-        falling,
-        Who {
-            client,
-            number,
-            method,
-        },
-    )?;
-    let (client, number) = (5, 1);
-    all_told(
-        rt,
-        tell(
-            rt,
-            falling,
-            Who {
-                client,
-                number,
-                method,
-            },
-        )?,
-    )?;
+    let first = Who {
+        client: 3,
+        number: 0,
+        method,
+    };
+    let second = Who {
+        client: 5,
+        number: 1,
+        method,
+    };
+    let falling = tell(rt, falling, first)?;
+    all_told(rt, tell(rt, falling, second)?)?;
     Ok(())
 }
