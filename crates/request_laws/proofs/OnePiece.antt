@@ -98,7 +98,7 @@ head_whole s (Ok (Some j)) in-s f n e =
     let sum = ran_whole j.head s p p.outcome f n e in
     omega (arith, in-s j refl, part_read j.due (drop j.head.len s), length-drop j.head.len s, sum)
 
-whole_within : (names : List Text) (s : Text) (f : Finding) (n : ℕ) → outcome names s ≡ whole f n → n ≤ length s
+pub whole_within : (names : List Text) (s : Text) (f : Finding) (n : ℕ) → outcome names s ≡ whole f n → n ≤ length s
 whole_within names s f n = head_whole s (judged names (take window s)) (head_within names s) f n
 
 pub begins : Begins

@@ -26,7 +26,7 @@ begins_passed : (names : List Text) (s : Text) (k : ℕ) (q : Req) → Begins na
 begins_passed names s k q (t, rest, is, spelled) = ap finding_of ((read_iff_spelled names s k q (length t)).1 (t, rest, is, refl, spelled))
 
 -- what is found when all the bytes are read at once
-found_told : (names : List Text) (s : Text) (f : Finding) → finding_of (outcome names s) ≡ f → Told names s f
+pub found_told : (names : List Text) (s : Text) (f : Finding) → finding_of (outcome names s) ≡ f → Told names s f
 found_told names s (passed k q) e =
     let w = passed_whole (outcome names s) k q e in
     let p = (read_iff_spelled names s k q w.0).0 w.1 in

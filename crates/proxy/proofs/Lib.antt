@@ -1,0 +1,15 @@
+pub mod Places
+pub mod Holding
+pub mod Opening
+pub mod Breaks
+pub mod Sizes
+pub mod Slots
+pub mod Events
+pub mod Passing
+pub mod Going
+pub mod Sending
+pub mod Turning
+pub mod Away
+pub mod Telling
+pub mod Saying
+pub mod Hearing
