@@ -1,0 +1,5 @@
+pub mod Traces
+pub mod Clients
+pub mod Servers
+pub mod Whole
+pub mod Calls
