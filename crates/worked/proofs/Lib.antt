@@ -1,0 +1,3 @@
+mod Told
+mod Cases
+mod OneWay

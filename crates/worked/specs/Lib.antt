@@ -1,0 +1,3 @@
+pub mod Played
+pub mod Rows
+pub mod Laws
