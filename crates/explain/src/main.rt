@@ -8,7 +8,8 @@ use report::tell;
 use request::found::Found;
 use request::reading::{MEMORY, Reading};
 use request::sent::SentRequest;
-use rules::{Rule, judge};
+use rules::judge;
+use script::hosts::Hosts;
 use script::problem::Problem;
 use script::progress::Script;
 use script::settings::Server;
@@ -94,64 +95,42 @@ fn read_settings(rt: &HostRuntime, name: &str) -> Result<Script, Unread> {
     Ok(script)
 }
 
-// What requests are judged by: the name and the rules of each server, in their order. Two lists, since reading is lent the names alone, in a row.
-#[derive(Drop)]
-struct Hosts<'s> {
-    names: Vec<&'s [u8]>,
-    rules: Vec<Vec<Rule<'s>>>,
+// Whether there is a server of this number, and its rules allow a request.
+fn allows(hosts: &Hosts<'_>, number: usize, request: &SentRequest<'_, '_>) -> bool {
+    hosts.rules.get(number).is_some_and(|rules| judge(
+        rules,
+        request.method,
+        request.target,
+    ).allows())
 }
 
-impl<'s> Hosts<'s> {
-    fn new(heap: Global, servers: &'s [Server]) -> Result<Hosts<'s>, AllocError> {
-        Ok(Hosts {
-            names: servers
-                .iter()
-                .map(|server| server.name.as_slice())
-                .collect(heap)?,
-            rules: servers
-                .iter()
-                .map(|server| server.rules.iter().map(|rule| rule.as_rule()).collect(heap))
-                .try_collect(heap)?,
-        })
-    }
-
-    // Whether there is a server of this number, and its rules allow a request.
-    fn allow(&self, number: usize, request: &SentRequest<'_, '_>) -> bool {
-        self.rules.get(number).is_some_and(|rules| judge(
-            rules,
-            request.method,
-            request.target,
-        ).allows())
-    }
-
-    // What has been found, where the rules are asked too.
-    fn ruled<'f, 'm>(&self, found: Found<'f, 'm>) -> Found<'f, 'm> {
-        match found {
-            Found::Request(number, request) if !self.allow(number, &request) => {
-                Found::Fault(Fault::Denied.at(0))
-            }
-            _ => found,
+// What has been found, where the rules are asked too.
+fn ruled<'f, 'm>(hosts: &Hosts<'_>, found: Found<'f, 'm>) -> Found<'f, 'm> {
+    match found {
+        Found::Request(number, request) if !allows(hosts, number, &request) => {
+            Found::Fault(Fault::Denied.at(0))
         }
+        _ => found,
     }
+}
 
-    // Tells what has been found of the request in hand, unless more of it is wanted. Gives what is read next; none where it is not known where the
-    // next request would begin.
-    fn tell(
-        &self,
-        reading: Reading,
-        memory: &[u8],
-        text: &mut Vec<u8>,
-    ) -> Result<Option<Reading>, Stop> {
-        let mut fields = blank_fields();
-        let found = self.ruled(reading.found(memory, &mut fields)?);
-        if let Found::More = found {
-            return Ok(Some(reading));
-        }
-        tell(&found, text)?;
-        match found {
-            Found::Fault(flaw) if flaw.fault.ends_client() => Ok(None),
-            _ => Ok(Some(Reading::new())),
-        }
+// Tells what has been found of the request in hand, unless more of it is wanted. Gives what is read next; none where it is not known where the
+// next request would begin.
+fn tell_found(
+    hosts: &Hosts<'_>,
+    reading: Reading,
+    memory: &[u8],
+    text: &mut Vec<u8>,
+) -> Result<Option<Reading>, Stop> {
+    let mut fields = blank_fields();
+    let found = ruled(hosts, reading.found(memory, &mut fields)?);
+    if let Found::More = found {
+        return Ok(Some(reading));
+    }
+    tell(&found, text)?;
+    match found {
+        Found::Fault(flaw) if flaw.fault.ends_client() => Ok(None),
+        _ => Ok(Some(Reading::new())),
     }
 }
 
@@ -189,7 +168,7 @@ impl<'s> Client<'s> {
             }
             let fed = reading.feed(&mut self.memory, rest, &self.hosts.names)?;
             rest = &rest[fed.taken.min(rest.len())..];
-            self.reading = self.hosts.tell(fed.reading, &self.memory, &mut self.text)?;
+            self.reading = tell_found(&self.hosts, fed.reading, &self.memory, &mut self.text)?;
         }
         Ok(())
     }

@@ -1,50 +1,59 @@
-// The gate as a program: a script comes on standard input, and each line is read and taken before the next one is looked at. One line
-// and one event are held at a time, in buffers that are used again, so that memory does not grow with the script.
+// The gate as a program: a script comes on standard input, and what happens is printed. Each line is read and played, and all that it brings about is printed,
+// before the next one is looked at. One line and one event are held at a time, in buffers that are used again, so that memory does not grow with the script.
 #![tactic(auto)]
 
-use script::problem::Problem;
+mod line;
+mod lines;
+mod player;
+mod stop;
+mod unread;
+
+use crate::lines::Lines;
+use crate::player::Player;
+use crate::stop::Stop;
+use rules::Rule;
 use script::progress::Script;
-use script::statement::Statement;
-use std::io;
-use std::io::{BufRead, BufReader};
+use script::statement::Sender;
+use std::io::{BufRead, BufReader, Write};
 use std::process::ExitCode;
-use thiserror::Error;
 
-// Why a run ended before its script did. `explain` has more reasons, and a file's name with them.
-#[derive(Debug, Drop, Error)]
-enum Stop {
-    // a line, by its number from 1 on, and what is wrong with it
-    #[error("line {0}: {1}")]
-    Line(u64, Problem),
-    #[error(transparent)]
-    Io(#[from] io::Error),
-}
-
-// One line of the script, without its end. `bytes` is left with what an event sends.
-fn play(script: &mut Script, line: &[u8], bytes: &mut Vec<u8>) -> Result<(), Problem> {
-    match script.read_line(line)? {
-        Statement::Event(event) => event.payload.decode(bytes),
-        _ => Ok(()),
+// Plays the events, of which the first has been read.
+fn play_events<R: BufRead + Drop, W: Write>(
+    lines: &mut Lines<R>,
+    script: &Script,
+    first: Sender,
+    player: &mut Player<'_>,
+    output: &mut W,
+) -> Result<(), Stop> {
+    let mut sender = first;
+    // counted, since no clause says that the input ends
+    for _ in 0..u64::MAX {
+        player.play(sender, lines.bytes())?;
+        output.write_all(player.text())?;
+        output.flush()?;
+        player.printed();
+        let Some(next) = lines.next_event(script)? else {
+            break;
+        };
+        sender = next;
     }
+    Ok(())
 }
 
 fn run(rt: &HostRuntime) -> Result<(), Stop> {
-    let mut script = Script::new(rt.alloc());
-    let mut input = BufReader::new(rt.alloc(), rt.stdin())?;
-    let mut line = Vec::new(rt.alloc());
-    let mut bytes = Vec::new(rt.alloc());
-    // no `split`: with a line made anew for each turn a million short events take a third longer
-    for number in 1..u64::MAX {
-        line.clear();
-        if input.read_until(b'\n', &mut line)? == 0 {
-            return Ok(());
-        }
-        if line.last() == Some(&b'\n') {
-            let _ = line.pop();
-        }
-        play(&mut script, &line, &mut bytes).map_err(|problem| Stop::Line(number, problem))?;
-    }
-    Ok(())
+    let mut lines = Lines::new(rt.alloc(), BufReader::new(rt.alloc(), rt.stdin())?);
+    let mut script = script_laws::start(rt.alloc());
+    let Some(first) = lines.first_event(&mut script)? else {
+        return Ok(());
+    };
+    let hosts = script_laws::lend_hosts(rt.alloc(), &script)?;
+    let rules: Vec<&[Rule<'_>]> = hosts
+        .rules
+        .iter()
+        .map(|rules| rules.as_slice())
+        .collect(rt.alloc())?;
+    let mut player = Player::new(rt.alloc(), &hosts.names, &rules)?;
+    play_events(&mut lines, &script, first, &mut player, &mut rt.stdout())
 }
 
 fn main(rt: HostRuntime) -> ExitCode {

@@ -76,7 +76,7 @@ impl Told for SentRequest<'_, '_> {
 }
 
 // The parts follow, each added to the text that is lent. A struct around the text would hold that loan, which each contract would then speak of.
-fn add_number(number: usize, text: &mut Vec<u8>) -> Result<(), AllocError>
+pub fn add_number(number: usize, text: &mut Vec<u8>) -> Result<(), AllocError>
     ensures { Added (decimal number) text.old.items text.new.items result }
 {
     let mut digits = [0; 20];
@@ -130,7 +130,7 @@ fn add_length(body: &[u8], text: &mut Vec<u8>) -> Result<(), AllocError>
     Ok(())
 }
 
-fn add_hex(bytes: &[u8], text: &mut Vec<u8>) -> Result<(), AllocError>
+pub fn add_hex(bytes: &[u8], text: &mut Vec<u8>) -> Result<(), AllocError>
     ensures { Added (hexadecimal bytes.now) text.old.items text.new.items result }
 {
     text.reserve(bytes.len().saturating_mul(2))?;

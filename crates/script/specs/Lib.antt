@@ -4,3 +4,4 @@ pub mod Payloads
 pub mod Statements
 pub mod Settings
 pub mod Scripts
+pub mod Hosts

@@ -27,9 +27,13 @@ abbrev pub known : Sender → ℕ → Bool
 known (sender.Client n) most = true
 known (sender.Server n) most = nat_le 1 n && nat_le n most
 
+-- a script as it stands behind its first event
+abbrev pub begun : ScriptText → ScriptText
+begun s = record { servers = s.servers; phase = phase.Events }
+
 -- an event ends the settings
 abbrev pub started : Sender → ScriptText → Result ScriptText Problem
-started from s = cond (known from (length s.servers)) (Ok (record { servers = s.servers; phase = phase.Events })) (Err problem.UnknownServer)
+started from s = cond (known from (length s.servers)) (Ok (begun s)) (Err problem.UnknownServer)
 
 -- what a script is after one more statement, or why it cannot be taken
 abbrev pub applied : Says → ScriptText → Result ScriptText Problem

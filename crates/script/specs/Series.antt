@@ -47,8 +47,9 @@ parts_of t = on_rest (rest_after (codes "/") t) (λ rest. on_none rest (Ok []) (
 abbrev pub methods_in : Text → List Text
 methods_in t = on_rest (rest_after (codes "-") t) (λ rest. []) (pieces_in methods t)
 
+-- a word that does not begin with a slash stands for an empty part, which no good word has
 abbrev pub parts_in : Text → List Text
-parts_in t = on_rest (rest_after (codes "/") t) (λ rest. on_none rest [] (pieces_in parts rest)) []
+parts_in t = on_rest (rest_after (codes "/") t) (λ rest. on_none rest [] (pieces_in parts rest)) ([] ∷ [])
 
 -- a check passes where there is a value, which then is x, and else names the problem
 abbrev pub Checks : {U X : Type 0} → Result U Problem → Result X Problem → X → Type 0

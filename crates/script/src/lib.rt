@@ -3,6 +3,7 @@
 // specs/Statements.antt is the grammar, specs/Scripts.antt what a line makes of a script.
 #![tactic(auto)]
 
+pub mod hosts;
 pub mod payload;
 pub mod problem;
 pub mod progress;

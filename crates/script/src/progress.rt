@@ -3,7 +3,7 @@
 ghost use Rattle.std.specs.Prelude.{◌≡◌, true, false, length, IfOk, MatchResult, Ok};
 ghost use Rattle.script.specs.Settings.{Took, servers_in};
 ghost use Rattle.script.specs.Statements.{said_by, statement_of, Sound};
-ghost use Rattle.script.specs.Scripts.{script_in, known, started, applied, copied, unread, line_taken, line_copied};
+ghost use Rattle.script.specs.Scripts.{script_in, begun, known, started, applied, copied, unread, line_taken, line_copied};
 
 use crate::problem::Problem;
 use crate::read::read_statement;
@@ -98,5 +98,20 @@ impl Script {
         let statement = read_statement(line)?;
         self.take(statement)?;
         Ok(statement)
+    }
+
+    // Reads one more line as it is read behind the first event: no setting may come, and nothing is to be changed.
+    pub fn read_later<'a>(&self, line: &'a [u8]) -> Result<Statement<'a>, Problem>
+        ensures takes { Took false (begun (script_in self.now)) (line_taken line.now (begun (script_in self.now))) (begun (script_in self.now)) result }
+        ensures says { IfOk result (λ s. statement_of line.now ≡ Ok (said_by s)) }
+        ensures sound { IfOk result Sound }
+    {
+        let statement = read_statement(line)?;
+        match statement {
+            Statement::Nothing => Ok(statement),
+            Statement::Server(_) | Statement::Rule(_) => Err(Problem::SettingAfterEvent),
+            Statement::Event(event) if self.knows(event.sender) => Ok(statement),
+            Statement::Event(_) => Err(Problem::UnknownServer),
+        }
     }
 }

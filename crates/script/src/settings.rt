@@ -1,12 +1,12 @@
 // Settings: servers and their rules, with words of their own. They grow by a server or by a rule of the last one; each step is tested
 // before anything is copied, so that a refusal leaves all as it was.
-ghost use Rattle.std.specs.Prelude.{◌≡◌, true, [], length, MatchResult};
+ghost use Rattle.std.specs.Prelude.{◌≡◌, true, [], length, map, IfOk, MatchResult};
 ghost use Rattle.script.specs.Settings.{Took, rule_text, rule_in, server_in, servers_in, server_with, named, with_server, with_rule};
 ghost use Rattle.script.specs.declared.problem.Problem.TheVariants.{Memory};
 
 use crate::problem::Problem;
 use rules::{Rule, Verdict};
-use std::alloc::Global;
+use std::alloc::{AllocError, Global};
 use text::name::eq_ignore_case;
 
 // A rule with words of its own, spelled as in the script: what a `Rule` lends, as a path's buffer stands to a path.
@@ -74,6 +74,17 @@ impl Server {
         let rule = OwnedRule::copy(*self.rules.allocator(), rule)?;
         self.rules.push(rule)?;
         Ok(())
+    }
+
+    // The rules, with their words lent.
+    pub(crate) fn lend_rules(&self, heap: Global) -> Result<Vec<Rule<'_>>, AllocError>
+        ensures { IfOk result (λ rules. map rule_text rules.items ≡ (server_in self.now).rules) }
+    {
+        let mut rules = Vec::new(heap);
+        for rule in &self.rules {
+            rules.push(rule.as_rule())?;
+        }
+        Ok(rules)
     }
 }
 

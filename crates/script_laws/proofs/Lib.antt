@@ -4,3 +4,4 @@ pub mod Rules
 pub mod Spellings
 pub mod Numbers
 pub mod Lines
+pub mod Good

@@ -63,7 +63,7 @@ module _ (most : ℕ) (from : ℕ → Sender) (fault : Problem) (few : most ≤ 
   event_read : (n : ℕ) (bs u : Text) → 1 ≤ n → n ≤ most → BytesWord bs u → event_from most from fault (decimal n ++ (32 ∷ u)) ≡ Ok (event (from n) bs)
   event_read n bs u low high h = let r = number_read most n few low high in rw (cut_before 32 (decimal n) u r.1, r.0, bytes_read bs u h)
 
-line_made : (t : Text) → IfOk (statement_of t) (LineSays t)
+pub line_made : (t : Text) → IfOk (statement_of t) (LineSays t)
 line_made [] = empty
 line_made (c ∷ cs) =
     let t = c ∷ cs in
