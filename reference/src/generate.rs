@@ -1144,7 +1144,11 @@ fn short_script(r: &mut Random) -> Script {
 }
 
 fn spoiled_script(r: &mut Random, mut lines: Vec<Vec<u8>>) -> Vec<Vec<u8>> {
-    let odd: [&[u8]; 70] = [
+    let odd: [&[u8]; 74] = [
+        b"from client 1 \"\\T\"",
+        b"from client 1 \"\\N\"",
+        b"from client 1 \"\\R\"",
+        b"from client 1 \"\\0\"",
         b"from client 1 \"\x7f\"",
         b"from client 1 \"\t\"",
         b"from client 1 \"\r\"",
@@ -1218,7 +1222,11 @@ fn spoiled_script(r: &mut Random, mut lines: Vec<Vec<u8>>) -> Vec<Vec<u8>> {
     ];
     match r.below(18) {
         0..=2 | 13..=17 => {
-            let line = r.pick(&odd).to_vec();
+            let mut line = r.pick(&odd).to_vec();
+            if r.chance(100) {
+                // An escape, most often an unknown one.
+                line = [b"from client 1 \"\\".as_slice(), &[r.between(32, 126) as u8], b"\""].concat();
+            }
             insert_anywhere(r, &mut lines, line);
         }
         12 => {
