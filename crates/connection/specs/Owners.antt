@@ -1,16 +1,17 @@
 -- The owners that a ring holds, first to last.
-use Rattle.std.specs.Prelude.{◌≡◌, ℕ, ◌<◌, ◌≤◌, cond, List, [], ◌∷◌, ◌++◌, length, take, drop, Some, None, Option, Ok, Err, Result, nat_le, nat_lt}
+use Rattle.std.specs.Prelude.{◌≡◌, ℕ, ◌<◌, ◌≤◌, min, cond, List, [], ◌∷◌, ◌++◌, length, take, drop, Some, None, Option, Ok, Err, Result, nat_lt}
 use Rattle.text.specs.Bytes.{Text}
 use Rattle.connection.specs.Model.{Owner}
+use Rattle.connection.specs.declared.owners.Owner.{Owner as Held}
 
--- a method of at most 16 letters
-abbrev pub short : Text → Option Text
-short t = cond (nat_le (length t) 16) (Some t) None
+-- the owner that is held, as the model's: of the letters as many as the method has, at most all 16
+abbrev pub owner_of : Held → Owner
+owner_of o = record { client = o.client; number = o.number; method = take (min o.method_len 16) o.letters }
 
 -- the owner of a client's request of this number and method, which has at most 16 letters
-abbrev pub owner_by : ℕ → ℕ → Text → Option Owner → Type 0
+abbrev pub owner_by : ℕ → ℕ → Text → Option Held → Type 0
 owner_by client number method None = 16 < length method
-owner_by client number method (Some o) = (length method ≤ 16) × (o ≡ record { client = client; number = number; method = method })
+owner_by client number method (Some o) = (length method ≤ 16) × (owner_of o ≡ record { client = client; number = number; method = method })
 
 -- from the first place on, round the end of the places, as many as wait
 abbrev pub queued : {A : Type 0} → List A → ℕ → ℕ → List A
@@ -23,9 +24,9 @@ pub record IsRing {A : Type 0} (places : List A) (first count : ℕ) : Type 0 wh
   pub fits : count ≤ 64
 
 -- one more at the end, where there is room
-abbrev pub pushed : List Owner → Owner → List Owner
+abbrev pub pushed : List Held → Held → List Held
 pushed os o = cond (nat_lt (length os) 64) (os ++ (o ∷ [])) os
 
 -- whether there is room; where there is none, the owner is given back
-abbrev pub push_answer : List Owner → Owner → Result (Unit {0}) Owner
+abbrev pub push_answer : List Held → Held → Result (Unit {0}) Held
 push_answer os o = cond (nat_lt (length os) 64) (Ok tt) (Err o)

@@ -1,6 +1,6 @@
 -- What the state of a connection and the memory lent for it stand for in the model, and what each call does there. The ghost fields of the model (what
 -- was given, told and sent) are in no state: a call is said to do its step whatever they are.
-use Rattle.std.specs.Prelude.{◌≡◌, ℕ, ◌<◌, ◌≤◌, Bool, false, cond, ◌&&◌, List, [], ◌∷◌, ◌++◌, length, Some, None, Option, Ok, Err, Result, ◌==◌, ◌≢◌, nat_lt, slice_get}
+use Rattle.std.specs.Prelude.{◌≡◌, ℕ, ◌<◌, ◌≤◌, Bool, false, cond, ◌&&◌, List, [], ◌∷◌, ◌++◌, map, length, Some, None, Option, Ok, Err, Result, ◌==◌, ◌≢◌, nat_lt, slice_get}
 use Rattle.text.specs.Bytes.{Text}
 use Rattle.message.specs.declared.fault.Fault.{Fault}
 use Rattle.message.specs.declared.fault.Fault.TheVariants.{Busy as TooMany, Down}
@@ -9,6 +9,8 @@ use Rattle.request.specs.Reading.{memory_size}
 use Rattle.request.specs.Writing.{Written}
 use Rattle.connection.specs.Model.{Ear, Owner, Given, Conn, Turn, rests, gives, falls, turn, put, down, asks, step, owner_limit, sent_limit}
 use Rattle.connection.specs.Hearing.{Way}
+use Rattle.connection.specs.Owners.{owner_of}
+use Rattle.connection.specs.declared.owners.Owner.{Owner as Held}
 use Rattle.connection.specs.declared.state.Connection.{Connection}
 use Rattle.connection.specs.declared.state.Busy.{Busy}
 use Rattle.connection.specs.declared.state.Falling.{Falling}
@@ -37,9 +39,9 @@ admission_of s = admission s.up (length s.owners) s.sent
 
 module _ {H : Type 0} (way : Way H) where
   -- what hearing leaves in the memory: nothing is read where nobody waits, on a connection that is down, and in a memory of another size
-  abbrev pub left_with : H → Text → Text → Option Owner → Text
+  abbrev pub left_with : H → Text → Text → Option Held → Text
   left_with h piece memory None = memory
-  left_with h piece memory (Some o) = way.leaves h memory o.method piece
+  left_with h piece memory (Some o) = way.leaves h memory (owner_of o).method piece
 
   abbrev pub left_by : Busy H → Text → Text
   left_by b memory = cond (length memory == memory_size && b.connection.up) (left_with b.connection.hearing b.piece.now memory (slice_get b.connection.owners 0)) memory
@@ -51,7 +53,7 @@ module _ {H : Type 0} (way : Way H) where
 
   -- a state, with the memory lent for it, stands for a connection of the model
   pub record Stands (s : Connection H) (memory : Text) (c : Conn) : Type 0 where
-    pub waits : s.owners ≡ c.waiting
+    pub waits : map owner_of s.owners ≡ c.waiting
     pub counts : s.sent ≡ length c.sent
     pub is_up : s.up ≡ c.up
     pub in_hand : InHand s.hearing memory c.waiting c.part
@@ -62,7 +64,7 @@ module _ {H : Type 0} (way : Way H) where
 
   -- and one that went down, of whose owners some are told already
   pub record Falls (f : Falling H) (c : Conn) (done : List Owner) : Type 0 where
-    pub left_to_tell : c.told ≡ done ++ f.0.owners
+    pub left_to_tell : c.told ≡ done ++ map owner_of f.0.owners
     pub counts : f.0.sent ≡ length c.sent
     pub is_down : (f.0.up ≡ false) × (c.up ≡ false)
     pub in_hand : f.0.hearing ≡ way.unheard
@@ -78,12 +80,12 @@ module _ {H : Type 0} (way : Way H) where
 
   -- an owner of a connection that went down is told, the next in order; or all were
   abbrev pub TellsSo : Conn → List Owner → Telling H → Type 0
-  TellsSo c done (Tell f o) = Falls f c (done ++ (o ∷ []))
+  TellsSo c done (Tell f o) = Falls f c (done ++ (owner_of o ∷ []))
   TellsSo c done (AllTold i) = (c.told ≡ done) × ((memory : Text) → Stands i.0 memory c)
 
   -- the response that is handed over; used: how many bytes the ones before it had
   abbrev pub given_of : Handed H → Text → ℕ → Given
-  given_of h memory used = record { to = h.owner; from = used; response = record { last = h.last; text = way.text h.response memory } }
+  given_of h memory used = record { to = owner_of h.owner; from = used; response = record { last = h.last; text = way.text h.response memory } }
 
   -- The next turn of a connection c at which a piece has come; the memory held before, and holds then. In a memory of another size nothing is done.
   abbrev pub NextSo : Text → Text → Conn → Result (Next H) (Busy H) → Type 0

@@ -2,28 +2,16 @@
 // the value itself, since this library takes no memory of its own.
 use std::marker::Model;
 
-mod method;
 pub mod ring;
 
-use method::Method;
-
-// Whose request waits for its response: the client, the request's number on this connection, from 0, and its method.
+// Whose request waits for its response: the client, the request's number on this connection, from 0, and its method: the first `method_len` of the
+// letters, or all 16 where that is more. A caller may hold what it likes behind them, and is given back just that.
 #[derive(Clone, Copy)]
 pub struct Owner {
     pub client: usize,
     pub number: u64,
-    method: Method,
-}
-
-// Clauses see the owner of the model.
-impl Model for Owner {
-    ghost use Rattle.connection.specs.Model.{Owner as Whose};
-
-    ghost Value = { Whose };
-
-    ghost view = { λ o. record { client = o.client; number = o.number; method = o.method } };
-
-    ghost inverse = { λ o. record { client = o.client; number = o.number; method = o.method } };
+    pub letters: [u8; 16],
+    pub method_len: usize,
 }
 
 #[derive(Drop)]
@@ -33,12 +21,12 @@ pub struct Owners {
     count: usize,
 }
 
-// Clauses see the owners that wait, first to last.
+// Clauses see the owners that wait, first to last, as they are held.
 impl Model for Owners {
     ghost use Rattle.std.specs.Prelude.{List};
-    ghost use Rattle.connection.specs.Model.{Owner as Whose};
+    ghost use Rattle.connection.specs.declared.owners.Owner.{Owner as Held};
 
-    ghost Value = { List Whose };
+    ghost Value = { List Held };
 
     ghost use Rattle.connection.specs.Owners.{queued, IsRing};
 

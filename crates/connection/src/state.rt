@@ -200,7 +200,7 @@ impl<H: Hearing> Idle<H> {
 impl<'p, H: Hearing> Busy<'p, H> {
     // What comes next: responses are read by the method of the first owner that waits. Where the memory lent is not of its size, nothing is done, and
     // the connection is given back.
-    #[tactic(auto, unfolding(request::specs::Reading::memory_size))]
+    #[tactic(auto, using(crate::proofs::Turning::first_waits), unfolding(request::specs::Reading::memory_size))]
     pub fn next(self, memory: &mut [u8]) -> Result<Next<'p, H>, Busy<'p, H>>
         ensures turns { (c : Conn) → Pends H.way self.entry memory.old c → NextSo H.way memory.old memory.new c result }
         ensures refused { IfErr result (λ busy. busy ≡ self.entry) }

@@ -1,11 +1,13 @@
 -- Each call leads from one moment to the next.
 use Rattle.std.proofs.Common.{◌≡◌, ℕ, Bool, true, false, cond, ◌&&◌, List, [], ◌∷◌, ◌++◌, length, Ok, Err, Result, nat_lt, sym, refl, ap, subst}
+use Rattle.std.proofs.lemmas.List.{length-map}
 use Rattle.text.specs.Bytes.{Text}
 use Rattle.message.specs.declared.fault.Fault.{Fault}
 use Rattle.message.specs.declared.fault.Fault.TheVariants.{Busy as TooMany}
 use Rattle.request.specs.Canonical.{Req}
 use Rattle.connection.specs.Hearing.{Way}
 use Rattle.connection.specs.Model.{Steady, Owner, Conn, has_room, asked, owner_limit, sent_limit, fresh, Event, asks, says, down, step}
+use Rattle.connection.specs.Owners.{owner_of}
 use Rattle.connection.specs.Stands.{come, admission, Stands, Pends, AskedSo, NextSo, TellsSo}
 use Rattle.connection.specs.declared.state.Connection.{Connection}
 use Rattle.connection.specs.declared.state.Idle.{Idle}
@@ -50,7 +52,7 @@ module _ {H : Type 0} (way : Way H) (st : Steady way.ear) where
     leads_asked = asking p q a.moment.led a.rests
 
     room : admission i.0.up (length i.0.owners) i.0.sent ≡ Ok tt → (c.up && has_room c) ≡ true
-    room h = let s = a.stands in rw (sym s.is_up, sym s.waits, sym s.counts) (admitted i.0.up (length i.0.owners) i.0.sent h)
+    room h = let s = a.stands in rw (sym s.is_up, sym s.waits, length-map i.0.owners owner_of, sym s.counts) (admitted i.0.up (length i.0.owners) i.0.sent h)
 
     still : j.0 ≡ i.0 → At way j memory vs c
     still h = record { stands = subst (λ (x : Connection H). Stands way x memory c) (sym h) a.stands; rests = a.rests; moment = a.moment }

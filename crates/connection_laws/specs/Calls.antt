@@ -5,6 +5,7 @@ use Rattle.request.specs.Canonical.{Req}
 use Rattle.request.specs.Reading.{memory_size}
 use Rattle.connection.specs.Hearing.{Way}
 use Rattle.connection.specs.Model.{Owner, Conn, Event, asks, down}
+use Rattle.connection.specs.Owners.{owner_of}
 use Rattle.connection.specs.Stands.{Stands, Pends, Falls, given_of}
 use Rattle.connection.specs.declared.state.Idle.{Idle}
 use Rattle.connection.specs.declared.state.Busy.{Busy}
@@ -56,5 +57,5 @@ module _ {H : Type 0} (way : Way H) where
 
   -- An owner is told; or all were.
   abbrev pub ToldAt : List Event → Conn → List Owner → Telling H → Type 0
-  ToldAt vs c done (Tell f o) = Down f vs c (done ++ (o ∷ []))
+  ToldAt vs c done (Tell f o) = Down f vs c (done ++ (owner_of o ∷ []))
   ToldAt vs c done (AllTold i) = (c.told ≡ done) × ((memory : Text) → At i memory vs c)

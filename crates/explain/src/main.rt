@@ -88,9 +88,18 @@ fn take_line(script: &mut Script, number: u64, line: &[u8]) -> Result<(), Unread
 
 fn read_settings(rt: &HostRuntime, name: &str) -> Result<Script, Unread> {
     let mut script = Script::new(rt.alloc());
-    let input = BufReader::new(rt.alloc(), File::open(rt, name)?)?;
-    for (number, line) in (1..u64::MAX).zip(input.split(rt.alloc(), b'\n')) {
-        take_line(&mut script, number, &line?)?;
+    let mut input = BufReader::new(rt.alloc(), File::open(rt, name)?)?;
+    let mut line = Vec::new(rt.alloc());
+    // no `split`: with a line made anew for each turn, settings of many short comments take twice as long
+    for number in 1..u64::MAX {
+        line.clear();
+        if input.read_until(b'\n', &mut line)? == 0 {
+            break;
+        }
+        if line.last() == Some(&b'\n') {
+            let _ = line.pop();
+        }
+        take_line(&mut script, number, &line)?;
     }
     Ok(script)
 }

@@ -2,6 +2,7 @@
 use crate::stop::Stop;
 use script::problem::Problem;
 use script::progress::Script;
+use script::read::is_passed_over;
 use script::statement::{Sender, Statement};
 use std::alloc::Global;
 use std::io;
@@ -43,17 +44,24 @@ impl<R: BufRead + Drop> Lines<R> {
         &self.bytes
     }
 
-    // Reads a line, without its end; says whether there was one. No `split`: with a line made anew for each turn a million short events take a third longer.
+    // Reads on to a line that is not passed over, and cuts off its end; says whether there was one. Comments are many at times, so they cost no more than
+    // to be read. No `split`: with a line made anew for each turn a million short events take a third longer.
     fn next(&mut self) -> io::Result<bool> {
-        self.line.clear();
-        if self.input.read_until(b'\n', &mut self.line)? == 0 {
-            return Ok(false);
+        // counted, since no clause says that the input ends
+        for _ in 0..u64::MAX {
+            self.line.clear();
+            if self.input.read_until(b'\n', &mut self.line)? == 0 {
+                break;
+            }
+            if self.line.last() == Some(&b'\n') {
+                let _ = self.line.pop();
+            }
+            self.number = self.number.saturating_add(1);
+            if !is_passed_over(&self.line) {
+                return Ok(true);
+            }
         }
-        if self.line.last() == Some(&b'\n') {
-            let _ = self.line.pop();
-        }
-        self.number = self.number.saturating_add(1);
-        Ok(true)
+        Ok(false)
     }
 
     // Takes a line of the settings, or the first event.

@@ -7,6 +7,7 @@ use Rattle.text.specs.Bytes.{Text}
 use Rattle.request.specs.Reading.{memory_size}
 use Rattle.connection.specs.Model.{Ear as Ears, Found, Owner, Given, Conn, more, unreadable, whole, rests, gives, down, on_found, on_idle, turn_by}
 use Rattle.connection.specs.Model.{turn as conn_turn}
+use Rattle.connection.specs.Owners.{owner_of}
 use Rattle.connection.specs.Stands.{Stands as ConnStands, Pends, NextSo as ConnNext, given_of, turn_now}
 use Rattle.connection.specs.declared.state.Busy.{Busy}
 use Rattle.connection.specs.declared.state.Falling.{Falling}
@@ -189,7 +190,7 @@ module _ (servers : Servers) (old : Proxy) (memory then before slot : Text) (g :
         handed g s d y,
         turn_is ∙ ap (λ t. Some (on_turn g s h.c t)) gift ∙ ap (λ o. Some (on_newest g s d o)) newest,
         (
-          ap (λ t. answers s x.owner (record { last = x.last; text = ear_way.text x.response t }) ∷ []) (sym m.is),
+          ap (λ t. answers s (owner_of x.owner) (record { last = x.last; text = ear_way.text x.response t }) ∷ []) (sym m.is),
           record {
             c = d;
             away = given_away d x.last x.owner.client new less frees;

@@ -1,7 +1,7 @@
 -- A request that is let pass goes out, or is refused: one turn of the model.
 use Rattle.std.proofs.Common.{◌≡◌, ℕ, ◌≤◌, Bool, true, false, cond, ◌&&◌, T, List, length, drop, Some, None, Ok, Err, Option, Result, sym, refl, ap, ◌∙◌, subst, slice_get, nat_lt, arith}
 use Rattle.std.proofs.lemmas.Bool.{and_parts, ltb-true}
-use Rattle.std.proofs.lemmas.List.{length-append}
+use Rattle.std.proofs.lemmas.List.{length-append, length-map}
 use Rattle.text.specs.Bytes.{Text}
 use Rattle.message.specs.declared.fault.Fault.{Fault}
 use Rattle.message.specs.declared.fault.Fault.TheVariants.{Denied, Down}
@@ -15,7 +15,8 @@ use Rattle.request_laws.proofs.Requests.{read_iff_spelled}
 use Rattle.response_laws.specs.Ear.{ear}
 use Rattle.rules.specs.Rules.{verdict, parts_in}
 use Rattle.connection.specs.Model.{Conn, asked, asks, step, has_room, owner_limit, sent_limit}
-use Rattle.connection.specs.Stands.{AskedSo, admission}
+use Rattle.connection.specs.Owners.{owner_of}
+use Rattle.connection.specs.Stands.{AskedSo, admission, admission_of, Stands as ConnStands}
 use Rattle.connection.specs.declared.state.Idle.{Idle}
 use Rattle.connection.specs.declared.state.Unsent.{Unsent}
 use Rattle.connection.specs.declared.state.Unsent.TheVariants.{Refused as Unsaid, Full, Method}
@@ -40,6 +41,13 @@ did_is a b e = cc
 
 idle_is : (i j : Idle Ear) → j.0 ≡ i.0 → j ≡ i
 idle_is i j e = ap (λ z. record { 0 = z }) e
+
+-- what a connection of the model admits is what the state that stands for it does
+admits_so : (i : Idle Ear) (slot : Text) (d : Conn) → ConnStands ear_way i.0 slot d → admission d.up (length d.waiting) (length d.sent) ≡ admission_of i.0
+admits_so i slot d st =
+    ap (λ u. admission u (length d.waiting) (length d.sent)) (sym st.is_up)
+    ∙ ap (λ n. admission i.0.up n (length d.sent)) (ap length (sym st.waits) ∙ length-map i.0.owners owner_of)
+    ∙ ap (λ n. admission i.0.up (length i.0.owners) n) (sym st.counts)
 
 -- no more wait at a connection that is asked than may
 asked_few : (c : ℕ) (q : Req) (d : Conn) (b : Bool) → (d.up && has_room d) ≡ b → length d.waiting ≤ owner_limit → length (step ear (asks c q) d).waiting ≤ owner_limit
@@ -96,8 +104,7 @@ module _ (old : Proxy) (memory then out after : Text) (g : Gate) (c : ℕ) (x : 
       let st = place.0 in
       let g1 : Gate = record g { connections = changed (step ear (asks c q)) s g.connections } in
       let mid1 : Proxy = record old { connections = record { places = put_at s j old.connections.places } } in
-      let admitted : admission d.up (length d.waiting) (length d.sent) ≡ Ok tt =
-      ap (λ u. admission u (length d.waiting) (length d.sent)) (sym st.is_up) ∙ ap (λ ws. admission i.0.up (length ws) (length d.sent)) (sym st.waits) ∙ ap (λ l. admission i.0.up (length i.0.owners) l) (sym st.counts) ∙ asked.0 in
+      let admitted : admission d.up (length d.waiting) (length d.sent) ≡ Ok tt = admits_so i (server_slot s memory) d st ∙ asked.0 in
       let held : Holds (servers_of old) mid1 memory g1 None = conn_held old memory g s i j d (step ear (asks c q)) go.stands.holds ep eg (asked.3 (server_slot s memory) d st, asked_few c q d (d.up && has_room d) refl place.1) in
       let go1 : Goes mid1 memory then g1 c x cs = record { held = go.held; stands = record { holds = held; quiet = go.stands.quiet }; line = go.line; is = go.is; place = go.place; few = go.few; wrote = go.wrote; stage = go.stage } in
       subst (λ y. Turned (servers_of old) g new then x.unread out after c y (taken_by y (length x.unread) k)) (sym (did_is did (Sent s len) p.0)) (
@@ -114,9 +121,7 @@ module _ (old : Proxy) (memory then out after : Text) (g : Gate) (c : ℕ) (x : 
       turn (servers_of old) ear g ≡ Some (on_admission ear g c cs s q n (admission d.up (length d.waiting) (length d.sent))) → OnPass c s mid new (Ok did) a → Goal
   by_answer (Ok len) i j d a ep eg place asked m e t h = sent_so i j d len a ep eg place asked m e t h
   by_answer (Err (Unsaid f)) i j d a ep eg place asked m e t h =
-      let st = place.0 in
-      let refusal : admission d.up (length d.waiting) (length d.sent) ≡ Err f =
-      ap (λ u. admission u (length d.waiting) (length d.sent)) (sym st.is_up) ∙ ap (λ ws. admission i.0.up (length ws) (length d.sent)) (sym st.waits) ∙ ap (λ l. admission i.0.up (length i.0.owners) l) (sym st.counts) ∙ asked.0 in
+      let refusal : admission d.up (length d.waiting) (length d.sent) ≡ Err f = admits_so i (server_slot s memory) d place.0 ∙ asked.0 in
       let same : put_at s j old.connections.places ≡ old.connections.places = ap (λ y. put_at s y old.connections.places) (idle_is i j asked.2) ∙ set_same old.connections.places s (Some i) ep in
       refused_so f a e (m ∙ ap (λ ps. record old { connections = record { places = ps } }) same) asked.1 (t ∙ ap (λ r. Some (on_admission ear g c cs s q n r)) refusal) h
   by_answer (Err (Full w)) i j d a ep eg place asked m e t h = let w = asked.2 in let fits = fits_slot q good in absurd (omega (arith, room, fits, w.1))

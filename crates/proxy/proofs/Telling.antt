@@ -1,9 +1,11 @@
 -- A connection went down: its owners are told, one by one.
-use Rattle.std.proofs.Common.{◌≡◌, suc, ◌+◌, List, [], ◌∷◌, ◌++◌, length, Some, sym, refl, ap, ◌∙◌, subst, append-nil, append_assoc, arith}
+use Rattle.std.proofs.Common.{◌≡◌, suc, ◌+◌, List, [], ◌∷◌, ◌++◌, map, length, Some, sym, refl, ap, ◌∙◌, subst, append-nil, append_assoc, arith}
 use Rattle.std.proofs.lemmas.List.{append_cancel_left}
 use Rattle.text.specs.Bytes.{Text}
 use Rattle.connection.specs.Model.{Owner, Conn}
+use Rattle.connection.specs.Owners.{owner_of}
 use Rattle.connection.specs.Stands.{Falls, TellsSo}
+use Rattle.connection.specs.declared.owners.Owner.{Owner as Held}
 use Rattle.connection.specs.declared.state.Falling.{Falling}
 use Rattle.connection.specs.declared.state.Idle.{Idle}
 use Rattle.connection.specs.declared.state.Telling.TheVariants.{Tell as ToldOne, Rest as ToldAll}
@@ -29,24 +31,25 @@ all_told xs ys t a b = sym (append_cancel_left xs [] ys (append-nil xs ∙ sym b
 
 module _ (servers : Servers) (old : Proxy) (memory : Text) (g : Gate) (fallen : Fallen) (many : length old.clients ≡ client_count) (t : Tells servers old fallen memory g) where
   -- the next owner is told, and its client is freed
-  pub tells_one : (new : Proxy) (f : Falling Ear) (o : Owner) → freed_by o.client old new →
+  pub tells_one : (new : Proxy) (f : Falling Ear) (o : Held) → freed_by o.client old new →
       ((c : Conn) (done : List Owner) → Falls ear_way fallen.falling c done → TellsSo ear_way c done (ToldOne f o)) →
       (d : Did) × (turn servers ear g ≡ Some d) × ToldIs servers new memory d (Tell (record { server = fallen.server; falling = f }) o)
   tells_one new f o frees next =
       let s = fallen.server in
-      let os = f.0.owners in
-      let falls : Falls ear_way f t.c (t.done ++ (o ∷ [])) = next t.c t.done t.falls in
-      let left : t.left ≡ o ∷ os = t.are ∙ one_told t.done fallen.falling.0.owners os t.c.told o t.falls.left_to_tell falls.left_to_tell in
+      let w : Owner = owner_of o in
+      let os : List Owner = map owner_of f.0.owners in
+      let falls : Falls ear_way f t.c (t.done ++ (w ∷ [])) = next t.c t.done t.falls in
+      let left : t.left ≡ w ∷ os = t.are ∙ one_told t.done (map owner_of fallen.falling.0.owners) os t.c.told w t.falls.left_to_tell falls.left_to_tell in
       let away : Away servers old memory g s t.c (suc (length os)) = subst (λ (xs : List Owner). Away servers old memory g s t.c (length xs)) left t.away in
       let is : new ≡ freed_state o.client old = frees (omega (arith, ap length away.holds.line, away.few)) in
       let then = freed o.client (record g { doing = tells s os }) in (
-        record { out = fails s o ∷ []; then = then },
+        record { out = fails s w ∷ []; then = then },
         ap (on_doing servers ear g) (t.doing ∙ ap (tells s) left),
         (
           refl,
           subst (λ p. Tells servers p (record { server = s; falling = f }) memory then) (sym is) (record {
             c = t.c;
-            done = t.done ++ (o ∷ []);
+            done = t.done ++ (w ∷ []);
             left = os;
             away = freed_away servers old memory (record g { doing = tells s os }) s t.c (length os) many o.client (doing_away servers old memory g s t.c (suc (length os)) many (tells s os) away);
             doing = refl;
@@ -62,7 +65,7 @@ module _ (servers : Servers) (old : Proxy) (memory : Text) (g : Gate) (fallen : 
   tells_all new i is next =
       let s = fallen.server in
       let told = next t.c t.done t.falls in
-      let left : t.left ≡ [] = t.are ∙ all_told t.done fallen.falling.0.owners t.c.told t.falls.left_to_tell told.0 in (
+      let left : t.left ≡ [] = t.are ∙ all_told t.done (map owner_of fallen.falling.0.owners) t.c.told t.falls.left_to_tell told.0 in (
         quiet g,
         ap (on_doing servers ear g) (t.doing ∙ ap (tells s) left),
         (

@@ -6,6 +6,7 @@ use Rattle.message.specs.Faults.{ends_client}
 use Rattle.request.specs.Canonical.{Req, write}
 use Rattle.request.specs.Reading.{memory_size}
 use Rattle.request.specs.Writing.{Written}
+use Rattle.connection.specs.Owners.{owner_of}
 use Rattle.ear.specs.Ways.{ear_way}
 use Rattle.response_laws.specs.Ear.{ear}
 use Rattle.rules.specs.declared.Rule.{Rule}
@@ -100,7 +101,7 @@ written_of a memory = cond (length memory == slab_size && nat_lt a.server server
 -- WHAT COMES NEXT OF A PIECE: one turn of the gate
 module _ (servers : Servers) (new : Proxy) (then : Text) where
   abbrev pub NextIs : Done → Result Next Heard → Type 0
-  NextIs d (Ok (Answer h a)) = (d.out ≡ answers a.server a.handed.owner (record { last = a.handed.last; text = answer_text a then }) ∷ []) × Hears servers new h then d.then
+  NextIs d (Ok (Answer h a)) = (d.out ≡ answers a.server (owner_of a.handed.owner) (record { last = a.handed.last; text = answer_text a then }) ∷ []) × Hears servers new h then d.then
   NextIs d (Ok (Down f)) = (d.out ≡ downs f.server ∷ []) × Tells servers new f then d.then
   NextIs d (Ok Rest) = (d.out ≡ []) × Stands servers new then d.then
   NextIs d (Err h) = ⊥
@@ -114,7 +115,7 @@ NextSo heard old new memory then result = OnSize heard old new memory then resul
 
 -- AN OWNER IS TOLD that the connection went down, or all were: one turn of the gate
 abbrev pub ToldIs : Servers → Proxy → Text → Done → Telling → Type 0
-ToldIs servers new memory d (Tell f o) = (d.out ≡ fails f.server o ∷ []) × Tells servers new f memory d.then
+ToldIs servers new memory d (Tell f o) = (d.out ≡ fails f.server (owner_of o) ∷ []) × Tells servers new f memory d.then
 ToldIs servers new memory d AllTold = (d.out ≡ []) × Stands servers new memory d.then
 
 abbrev pub TellSo : Fallen → Proxy → Proxy → Telling → Type 0

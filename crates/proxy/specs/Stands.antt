@@ -7,6 +7,7 @@ use Rattle.request_laws.specs.Pieces.{InHand}
 use Rattle.rules.specs.Rules.{view_rules}
 use Rattle.rules.specs.declared.Rule.{Rule}
 use Rattle.connection.specs.Model.{Owner, Conn, owner_limit}
+use Rattle.connection.specs.Owners.{owner_of}
 use Rattle.connection.specs.Stands.{Stands as ConnStands, Pends, Falls}
 use Rattle.connection.specs.declared.state.Idle.{Idle}
 use Rattle.ear.specs.Ways.{ear_way}
@@ -83,5 +84,5 @@ module _ (servers : Servers) (p : Proxy) where
     pub left : List Owner
     pub away : Away memory g f.server c (length left)
     pub doing : g.doing ≡ tells f.server left
-    pub are : left ≡ f.falling.0.owners
+    pub are : left ≡ map owner_of f.falling.0.owners
     pub falls : Falls ear_way f.falling c done

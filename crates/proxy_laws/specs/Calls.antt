@@ -2,6 +2,7 @@
 use Rattle.std.specs.Prelude.{◌≡◌, ℕ, ◌^◌, ◌<◌, Bool, true, false, ◌&&◌, List, [], ◌∷◌, ◌++◌, map, length, drop, Some, Ok, Err, Result, ◌==◌, nat_lt, slice_get}
 use Rattle.std.specs.Borrow.{Bor}
 use Rattle.text.specs.Bytes.{Text}
+use Rattle.connection.specs.Owners.{owner_of}
 use Rattle.response_laws.specs.Ear.{ear}
 use Rattle.rules.specs.declared.Rule.{Rule}
 use Rattle.proxy.specs.Model.{Servers, Client, Gate, answers, fails, downs, from_client, from_server, bytes_of, comes, opened}
@@ -72,7 +73,7 @@ ServerSaidAt s piece old new (Err m) = Unit {0}
 -- What comes next of it: a response is handed over, or its connection went down, or nothing more.
 module _ (servers : Servers) (new : Proxy) (then : Text) (es : List Entry) where
   abbrev pub NextIsAt : Done → Result Next Heard → Type 0
-  NextIsAt d (Ok (Answer h a)) = (d.out ≡ answers a.server a.handed.owner (record { last = a.handed.last; text = answer_text a then }) ∷ []) × HearsAt servers new h then (es ++ map went d.out) d.then
+  NextIsAt d (Ok (Answer h a)) = (d.out ≡ answers a.server (owner_of a.handed.owner) (record { last = a.handed.last; text = answer_text a then }) ∷ []) × HearsAt servers new h then (es ++ map went d.out) d.then
   NextIsAt d (Ok (Down f)) = (d.out ≡ downs f.server ∷ []) × TellsAt servers new f then (es ++ map went d.out) d.then
   NextIsAt d (Ok Rest) = (d.out ≡ []) × At servers new then (es ++ map went d.out) d.then
   NextIsAt d (Err h) = ⊥
@@ -86,7 +87,7 @@ NextAt heard old new memory then result = OnSizeAt heard old new memory then res
 
 -- An owner is told; or all were.
 abbrev pub ToldAt : Servers → Proxy → Text → List Entry → Done → Telling → Type 0
-ToldAt servers new memory es d (Tell f o) = (d.out ≡ fails f.server o ∷ []) × TellsAt servers new f memory (es ++ map went d.out) d.then
+ToldAt servers new memory es d (Tell f o) = (d.out ≡ fails f.server (owner_of o) ∷ []) × TellsAt servers new f memory (es ++ map went d.out) d.then
 ToldAt servers new memory es d AllTold = (d.out ≡ []) × At servers new memory (es ++ map went d.out) d.then
 
 abbrev pub TellAt : Fallen → Proxy → Proxy → Telling → Type 0

@@ -97,7 +97,8 @@ fn read_sent(line: &[u8]) -> Result<Statement<'_>, Problem>
     Err(Problem::UnknownStatement)
 }
 
-fn is_passed_over(line: &[u8]) -> bool
+// Whether a line is passed over: an empty one, or a comment.
+pub fn is_passed_over(line: &[u8]) -> bool
     ensures { result ≡ passed_over line.now }
 {
     matches!(line, [] | [b'#', ..])

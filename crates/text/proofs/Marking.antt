@@ -1,5 +1,5 @@
 -- What one byte of a line decides for a cut, and how the pieces of a text follow from a cut at the mark between them.
-use Rattle.std.proofs.Common.{◌≡◌, ℕ, suc, ◌+◌, ◌<◌, Bool, true, false, not, cond, ◌&&◌, T, eqb, ltb, ◌==◌, List, [], ◌∷◌, ◌++◌, length, take, drop, Some, None, Option, sym, refl, ap, ◌∙◌, subst, arith}
+use Rattle.std.proofs.Common.{◌≡◌, ℕ, suc, ◌+◌, ◌<◌, Bool, true, false, not, cond, ◌&&◌, ◌||◌, T, eqb, ltb, ◌==◌, List, [], ◌∷◌, ◌++◌, length, take, drop, Some, None, Option, sym, refl, ap, ◌∙◌, subst, arith}
 use lib.Pointwise.{pointwise}
 use Rattle.std.specs.List.{position}
 use Rattle.std.specs.Option.{MatchOption, option_map}
@@ -108,3 +108,8 @@ cut_shorter m (c ∷ cs) = one_shorter (eqb c m) c cs (cut_at m cs) (cut_shorter
 
 pub shorter : (m : ℕ) (t before after : Text) → Some (before, after) ≡ cut_at m t → length after < length t
 shorter m t before after e = subst (λ (o : Option (Text × Text)). Shorter (length t) o) (sym e) (cut_shorter m t)
+
+-- a choice whose second is no
+pub or_none : (b : Bool) → (b || false) ≡ b
+or_none true = refl
+or_none false = refl

@@ -1,29 +1,36 @@
 // The ring is read and written at its two ends only.
-ghost use Rattle.std.specs.Prelude.{◌≡◌, ◌≤◌, [], length, drop, nat_le, slice_get};
-ghost use Rattle.connection.specs.Owners.{owner_by, push_answer, pushed};
+ghost use Rattle.std.specs.Prelude.{◌≡◌, ◌-◌, ◌≤◌, [], ◌++◌, length, drop, replicate, nat_le, slice_get, IfSome};
+ghost use Rattle.connection.specs.Owners.{owner_by, owner_of, push_answer, pushed};
 
-use super::method::Method;
 use super::{Owner, Owners};
 
 impl Owner {
     // The owner of a client's request of this number and method; a method of more than 16 letters is none.
     pub fn new(client: usize, number: u64, method: &[u8]) -> Option<Owner>
-        ensures { owner_by client number method.now result }
+        ensures is { owner_by client number method.now result }
+        ensures held { IfSome result (λ o. (o.letters ≡ method.now ++ replicate (16 - length method.now) 0) × (o.method_len ≡ length method.now)) }
     {
-        let method = Method::new(method)?;
+        let method_len = method.len();
+        if method_len > 16 {
+            return None;
+        }
+        let mut letters = [0; 16];
+        letters[0..method_len].copy_from_slice(method);
         Some(Owner {
             client,
             number,
-            method,
+            letters,
+            method_len,
         })
     }
 
-    // The method of the request.
+    // The method of the request: no letter behind the sixteenth, whatever length is held.
     pub fn method(&self) -> &[u8]
-        ensures is { result.now ≡ self.now.method }
+        ensures is { result.now ≡ (owner_of self.now).method }
         ensures within { length result.now ≤ 16 }
     {
-        self.method.as_bytes()
+        let n = self.method_len.min(16);
+        &self.letters[0..n]
     }
 }
 
@@ -35,7 +42,8 @@ impl Owners {
         let nobody = Owner {
             client: 0,
             number: 0,
-            method: Method::default(),
+            letters: [0; 16],
+            method_len: 0,
         };
         Owners {
             places: [nobody; 64],

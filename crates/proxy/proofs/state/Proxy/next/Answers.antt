@@ -1,12 +1,9 @@
-use Rattle.std.proofs.Common.{◌≡◌, ◌<◌, ◌+◌, ◌-◌, ◌*◌, ℕ, length, take, drop, subst, arith}
+use Rattle.std.proofs.Common.{◌≡◌, ◌<◌, ◌+◌, ◌-◌, ◌*◌, ℕ, length, take, drop, arith}
 use borrow.Rule.Slice.PartMut.{put_mid}
 use Rattle.text.specs.Bytes.{Text}
 use Rattle.request.specs.Reading.{memory_size}
-use Rattle.connection.specs.declared.state.Handed.{Handed}
-use Rattle.ear.specs.declared.Ear.{Ear}
 use Rattle.proxy.specs.Model.{client_count}
 use Rattle.proxy.specs.Slots.{slab_size}
-use Rattle.proxy.specs.Steps.{freed_if_by}
 use Rattle.proxy.proofs.Hearing.{Moves, moves, fits_so, misfits_so, hands, rests_there, falls_there, not_back}
 use Rattle.proxy.proofs.state.Proxy.next.Goals as goal
 use Rattle.proxy.proofs.state.Proxy.next.Goals.{After-next, then-memory-ne-SLAB-via-then-memory-ne-SLAB, then-memory-ne-SLAB-via-else-memory-ne-SLAB+then-heard-ge-SERVERS}
@@ -64,9 +61,8 @@ returns-in-Ok-Hand c =
     let memory = c.args.memory.now in
     let b = c.in-Ok-Hand.busy in
     let x = c.in-Ok-Hand.handed in
-    let frees : freed_if_by x.last x.owner.client old new = subst (λ (y : Handed Ear). freed_if_by y.last y.owner.client old new) c.handed.view_is c.free_if.ensures in
     fits_so heard old new memory (then s) _ k.slab k.few (λ servers g h.
-    hands servers old memory (then s) (before s) c.next.new.memory g heard k.many k.moved h new b x c.in-Ok-Hand.field-0 c.in-Ok-Hand.field-0-is frees c.in-Ok-Hand.ensures.turns)
+    hands servers old memory (then s) (before s) c.next.new.memory g heard k.many k.moved h new b x c.in-Ok-Hand.field-0 c.in-Ok-Hand.field-0-is c.free_if.ensures c.in-Ok-Hand.ensures.turns)
 
 -- the connection is at rest again
 pub returns-in-Ok-Rest : goal.returns-in-Ok-Rest

@@ -1,16 +1,12 @@
-use Rattle.std.proofs.Common.{◌≡◌, length, arith, subst}
-use Rattle.connection.specs.Model.{Owner}
+use Rattle.std.proofs.Common.{◌≡◌, length, arith}
 use Rattle.proxy.specs.Model.{client_count}
-use Rattle.proxy.specs.Steps.{freed_by}
 use Rattle.proxy.proofs.Telling.{tells_one, tells_all}
 use Rattle.proxy.proofs.state.Proxy.tell.Goals as goal
 
 pub returns-in-Tell : goal.returns-in-Tell
 returns-in-Tell c =
     let many : length c.args.self.now.clients ≡ client_count = omega arith in
-    let frees : freed_by c.in-Tell.owner.client c.args.self.now c.free.new.self =
-    subst (λ (o : Owner). freed_by o.client c.args.self.now c.free.new.self) c.owner.view_is c.free.ensures in
-    λ servers memory g t. tells_one servers c.args.self.now memory g c.args.fallen many t c.free.new.self c.in-Tell.falling c.in-Tell.owner frees c.in-Tell.ensures
+    λ servers memory g t. tells_one servers c.args.self.now memory g c.args.fallen many t c.free.new.self c.in-Tell.falling c.in-Tell.owner c.free.ensures c.in-Tell.ensures
 
 pub returns-in-Rest : goal.returns-in-Rest
 returns-in-Rest c =
