@@ -1,8 +1,8 @@
 // A line read into a statement: by the words that it begins with, and then word by word, each cut off and checked where it stands.
 // Nothing is copied, and no byte is looked at more than a few times. That an event's bytes are well spelled is a clause of each reader, `sound`, and no
 // part of the type: whoever builds an event would have to show it.
-ghost use Rattle.std.specs.Prelude.{◌≡◌, IfOk};
-ghost use Rattle.script.specs.Statements.{view, Sound, statement_of, server_of, rule_of, event_of, sent_of, number_in, sender_of, passed_over};
+ghost use Rattle.std.specs.Prelude.{◌≡◌, true, IfOk, Ok};
+ghost use Rattle.script.specs.Statements.{view, Sound, nothing, statement_of, server_of, rule_of, event_of, sent_of, number_in, sender_of, passed_over};
 
 use crate::payload::read_payload;
 use crate::problem::Problem;
@@ -97,9 +97,10 @@ fn read_sent(line: &[u8]) -> Result<Statement<'_>, Problem>
     Err(Problem::UnknownStatement)
 }
 
-// Whether a line is passed over: an empty one, or a comment.
+// Whether a line is passed over: an empty one, or a comment. Such a line says nothing.
 pub fn is_passed_over(line: &[u8]) -> bool
-    ensures { result ≡ passed_over line.now }
+    ensures is { result ≡ passed_over line.now }
+    ensures silent { result ≡ true → statement_of line.now ≡ Ok nothing }
 {
     matches!(line, [] | [b'#', ..])
 }
